@@ -1,0 +1,4 @@
+pub mod Cases
+pub mod TestbitLaws
+pub mod LogicalLaws
+pub mod FieldLaws

@@ -1,0 +1,7 @@
+pub mod Testbit
+pub mod Logical
+pub mod Shift
+pub mod Division
+pub mod Field
+pub mod Count
+pub mod FieldList
