@@ -7,12 +7,14 @@
 --   permuteField p x start end         ==  x, with bit start + j of the field replaced by bit start + p j of x
 --   rotateBitField x start end c       ==  the field rotated by c towards the high end, c of either sign
 --   reverseBitField x start end        ==  the field with its bits in the opposite order
+--   FieldLocal start end op            ==  op reads and writes no bit outside the field, but for leaving it as it is
 --
 --   rotateBitField x 2 8 2      bit of the result   9 8 7 6 5 4 3 2 1 0
 --                               is bit of x         9 8 5 4 3 2 7 6 1 0
 --   reverseBitField x 2 8       is bit of x         9 8 2 3 4 5 6 7 1 0
 use Prim.Native.Nat.{ℕ, suc, _+_, _-_}
-use mathlib.Core.Bool.{Bool, cond, _&&_}
+use mathlib.Core.Path.{_≡_}
+use mathlib.Core.Bool.{Bool, true, false, cond, _&&_}
 use lib.Dec.{leb, ltb}
 use lib.IntN.{ℤ, pos, _-ℤ_}
 use Rattle.bits.specs.Testbit.{testbit, fill, ofBits}
@@ -49,3 +51,9 @@ rotateBitField x start end c = permuteField (rotateIndex (end - start) c) x star
 
 unfoldable pub reverseBitField : ℤ → ℕ → ℕ → ℤ
 reverseBitField x start end = permuteField (reverseIndex (end - start)) x start end
+
+-- op changes no bit outside the field, and what it makes of the field depends on the field alone
+pub record FieldLocal (start end : ℕ) (op : ℤ → ℤ) : Type 0 where
+  pub outside : (x : ℤ) (i : ℕ) → inField start end i ≡ false → testbit (op x) i ≡ testbit x i
+  pub inside : (x y : ℤ) → ((i : ℕ) → inField start end i ≡ true → testbit x i ≡ testbit y i)
+      → (i : ℕ) → inField start end i ≡ true → testbit (op x) i ≡ testbit (op y) i
