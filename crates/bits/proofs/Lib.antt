@@ -4,5 +4,6 @@ pub mod TestbitLaws
 pub mod LogicalLaws
 pub mod Algebra
 pub mod ArgumentLaws
+pub mod ModLaws
 pub mod FieldLaws
 pub mod FieldAlgebra
