@@ -7,3 +7,4 @@ pub mod ArgumentLaws
 pub mod ModLaws
 pub mod FieldLaws
 pub mod FieldAlgebra
+pub mod RotateLaws

@@ -1,0 +1,117 @@
+-- Rotations and reversals of one field, composed. Each is a permutation of the field, so these are facts about index maps.
+-- Assumes nothing.
+use mathlib.Core.Path.{_≡_, refl, sym, _∙_, ap}
+use Prim.Native.Nat.{ℕ, suc, _-_, _%_, _≤_, _<_}
+use native.Mathlib.Nat.{mod-eq-of-lt}
+use native.Mathlib.Omega.{arith}
+use lib.IntN.{ℤ, pos, negsuc, negℤ, _+ℤ_, _-ℤ_, +ℤ-idr, +ℤ-assoc, +ℤ-comm, negℤ-+ℤ, negℤ-negℤ}
+use Rattle.bits.specs.Logical.{bitwiseNot}
+use Rattle.bits.specs.Division.{modℕ, «mod»}
+use Rattle.bits.specs.Field.{permuteField, rotateIndex, reverseIndex, rotateBitField, reverseBitField}
+use Rattle.bits.proofs.ModLaws.{modℕ-lt, modℕ-small, modℕ-period, modℕ-sub-l, modℕ-sub-r, modℕ-not, modℕ-self, not-add}
+use Rattle.bits.proofs.FieldAlgebra.{permuteField-ext, permuteField-id, permuteField-compose}
+
+-- ---- index maps
+
+module _ (size : ℕ) (h : 0 < size) where
+  pub rotateIndex-lt : (c : ℤ) (j : ℕ) → rotateIndex size c j < size
+  unfolding rotateIndex
+  rotateIndex-lt c j = modℕ-lt (pos j -ℤ c) size h
+
+  pub rotateIndex-zero : (j : ℕ) → j < size → rotateIndex size (pos 0) j ≡ j
+  unfolding rotateIndex
+  rotateIndex-zero j l = ap (λ (x : ℤ). modℕ x size) (+ℤ-idr (pos j)) ∙ modℕ-small j size l
+
+  pub rotateIndex-compose : (a b : ℤ) (j : ℕ) → rotateIndex size a (rotateIndex size b j) ≡ rotateIndex size (a +ℤ b) j
+  unfolding rotateIndex
+  rotateIndex-compose a b j =
+    modℕ-sub-l (pos j -ℤ b) a size h
+    ∙ ap (λ (x : ℤ). modℕ x size)
+        (+ℤ-assoc (pos j) (negℤ b) (negℤ a) ∙ ap (λ (x : ℤ). pos j +ℤ x) (+ℤ-comm (negℤ b) (negℤ a) ∙ sym (negℤ-+ℤ a b)))
+
+  -- only the count modulo the size matters
+  pub rotateIndex-mod : (c : ℤ) (j : ℕ) → rotateIndex size («mod» c (pos size)) j ≡ rotateIndex size c j
+  unfolding rotateIndex «mod»
+  rotateIndex-mod c j = modℕ-sub-r (pos j) c size h
+
+  pub rotateIndex-period : (c : ℤ) (j : ℕ) → rotateIndex size (pos size +ℤ c) j ≡ rotateIndex size c j
+  unfolding «mod»
+  rotateIndex-period c j =
+    sym (rotateIndex-mod (pos size +ℤ c) j)
+    ∙ ap (λ (n : ℕ). rotateIndex size (pos n) j) (ap (λ (x : ℤ). modℕ x size) (+ℤ-comm (pos size) c) ∙ modℕ-period c size)
+    ∙ rotateIndex-mod c j
+
+  pub reverseIndex-lt : (j : ℕ) → reverseIndex size j < size
+  unfolding reverseIndex
+  reverseIndex-lt j = omega arith
+
+  pub reverseIndex-involutive : (j : ℕ) → j < size → reverseIndex size (reverseIndex size j) ≡ j
+  unfolding reverseIndex
+  reverseIndex-involutive j l = omega arith
+
+  -- the opposite position is -1 - j modulo the size
+  reverseIndex-mod : (j : ℕ) → j < size → modℕ (negsuc j) size ≡ reverseIndex size j
+  unfolding reverseIndex bitwiseNot
+  reverseIndex-mod j l = modℕ-not (pos j) size h ∙ ap (λ (n : ℕ). size - suc n) (modℕ-small j size l)
+
+  -- a reversal after a rotation is a reversal before the opposite rotation
+  pub reverseIndex-rotateIndex : (c : ℤ) (j : ℕ) → j < size → rotateIndex size c (reverseIndex size j) ≡ reverseIndex size (rotateIndex size (negℤ c) j)
+  unfolding rotateIndex reverseIndex bitwiseNot
+  reverseIndex-rotateIndex c j l =
+    ap (λ (n : ℕ). modℕ (pos n -ℤ c) size) (sym (reverseIndex-mod j l))
+    ∙ modℕ-sub-l (negsuc j) c size h
+    ∙ ap (λ (x : ℤ). modℕ x size) (sym (not-add (pos j) (negℤ (negℤ c)) ∙ ap (λ (x : ℤ). negsuc j -ℤ x) (negℤ-negℤ c)))
+    ∙ modℕ-not (pos j -ℤ negℤ c) size h
+
+-- ---- the operations, on a field that is not empty
+
+module _ (start end : ℕ) (h : start < end) where
+  size-pos : 0 < end - start
+  size-pos = omega arith
+
+  pub rotate-zero : (x : ℤ) → rotateBitField x start end (pos 0) ≡ x
+  unfolding rotateBitField
+  rotate-zero x = permuteField-id (rotateIndex (end - start) (pos 0)) x start end (rotateIndex-zero (end - start) size-pos)
+
+  pub rotate-mod : (x : ℤ) (c : ℤ) → rotateBitField x start end («mod» c (pos (end - start))) ≡ rotateBitField x start end c
+  unfolding rotateBitField
+  rotate-mod x c =
+    permuteField-ext (rotateIndex (end - start) («mod» c (pos (end - start)))) (rotateIndex (end - start) c) x start end
+    (λ j l. rotateIndex-mod (end - start) size-pos c j)
+
+  pub rotate-compose : (x : ℤ) (a b : ℤ) → rotateBitField (rotateBitField x start end a) start end b ≡ rotateBitField x start end (a +ℤ b)
+  unfolding rotateBitField
+  rotate-compose x a b =
+    permuteField-compose (rotateIndex (end - start) a) (rotateIndex (end - start) b) x start end
+        (λ j l. rotateIndex-lt (end - start) size-pos b j)
+    ∙ permuteField-ext (λ j. rotateIndex (end - start) a (rotateIndex (end - start) b j)) (rotateIndex (end - start) (a +ℤ b)) x start end
+        (λ j l. rotateIndex-compose (end - start) size-pos a b j)
+
+  pub reverse-involutive : (x : ℤ) → reverseBitField (reverseBitField x start end) start end ≡ x
+  unfolding reverseBitField
+  reverse-involutive x =
+    permuteField-compose (reverseIndex (end - start)) (reverseIndex (end - start)) x start end
+        (λ j l. reverseIndex-lt (end - start) size-pos j)
+    ∙ permuteField-id (λ j. reverseIndex (end - start) (reverseIndex (end - start) j)) x start end
+        (reverseIndex-involutive (end - start) size-pos)
+
+  -- reversing a rotated field is rotating the reversed field the other way
+  pub reverse-rotate : (x : ℤ) (c : ℤ)
+      → reverseBitField (rotateBitField x start end c) start end ≡ rotateBitField (reverseBitField x start end) start end (negℤ c)
+  unfolding rotateBitField reverseBitField
+  reverse-rotate x c =
+    permuteField-compose (rotateIndex (end - start) c) (reverseIndex (end - start)) x start end
+        (λ j l. reverseIndex-lt (end - start) size-pos j)
+    ∙ permuteField-ext (λ j. rotateIndex (end - start) c (reverseIndex (end - start) j))
+        (λ j. reverseIndex (end - start) (rotateIndex (end - start) (negℤ c) j)) x start end
+        (reverseIndex-rotateIndex (end - start) size-pos c)
+    ∙ sym (permuteField-compose (reverseIndex (end - start)) (rotateIndex (end - start) (negℤ c)) x start end
+        (λ j l. rotateIndex-lt (end - start) size-pos (negℤ c) j))
+
+  -- 01's step of the net count at a reversal
+  pub rotate-opposite : (x : ℤ) (c : ℤ) → rotateBitField x start end («mod» (pos (end - start) -ℤ c) (pos (end - start))) ≡ rotateBitField x start end (negℤ c)
+  unfolding rotateBitField
+  rotate-opposite x c =
+    rotate-mod x (pos (end - start) -ℤ c)
+    ∙ permuteField-ext (rotateIndex (end - start) (pos (end - start) -ℤ c)) (rotateIndex (end - start) (negℤ c)) x start end
+        (λ j l. rotateIndex-period (end - start) size-pos (negℤ c) j)
