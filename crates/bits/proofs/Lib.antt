@@ -2,4 +2,5 @@ pub mod Cases
 pub mod TestbitLaws
 pub mod LogicalLaws
 pub mod FieldLaws
+pub mod LengthLaws
 pub mod CountLaws
