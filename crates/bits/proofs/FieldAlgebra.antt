@@ -1,25 +1,23 @@
 -- The algebra of fields: get and put, distribution over the logical operations, permutations of a field composed. Assumes nothing.
-use mathlib.Core.Path.{_≡_, refl, sym, _∙_, ap, ap₂, subst}
+use mathlib.Core.Path.{_≡_, refl, sym, _∙_, ap, ap₂}
 use mathlib.Core.Bool.{Bool, true, false, not, cond, _&&_}
-use Prim.Native.Nat.{ℕ, zero, suc, _+_, _*_, _-_, _^_, _≤_, _<_}
-use native.Mathlib.Nat.{add-sub-cancel-left, pow-suc}
+use Prim.Native.Nat.{ℕ, _+_, _-_, _≤_, _<_}
 use native.Mathlib.Omega.{arith}
 use lib.Dec.{ltb}
-use lib.IntN.{ℤ, pos, negsuc}
-use lib.Signed.{mag}
+use lib.IntN.{ℤ}
 use borrow.Author.Tests.{lt-ltb}
-use Rattle.bits.specs.Testbit.{isNegative, testbit, consBit, fill, ofBits}
+use Rattle.bits.specs.Testbit.{testbit, fill}
 use Rattle.bits.specs.Logical.{bitwiseNot, bitwise}
-use Rattle.bits.specs.Field.{inField, bitField, setField, copyBitField, copyBit, permuteField}
-use Rattle.bits.proofs.TestbitLaws.{by-lt, testbit-ext, testbit-fill, isNegative-ofBits}
+use Rattle.bits.specs.Field.{inField, bitField, setField, copyBitField, permuteField}
+use Rattle.bits.proofs.TestbitLaws.{by-lt, testbit-ext, testbit-fill}
 use Rattle.bits.proofs.LogicalLaws.{testbit-not, testbit-bitwise}
 use Rattle.bits.proofs.FieldLaws.{
   by-field,
-  inField-true,
   testbit-setField,
+  testbit-setField-in,
+  testbit-setField-out,
   testbit-bitField,
   testbit-copyBitField,
-  testbit-permuteField,
 }
 
 -- ---- fields replaced: only the new bits inside the field count
@@ -42,13 +40,6 @@ setField-same x start end g into = testbit-ext λ i.
     ∙ by-field (λ b. cond b (g (i - start)) (testbit x i) ≡ testbit x i) start end i
         (λ l u. into (i - start) (omega arith) ∙ (let e : start + (i - start) ≡ i = omega arith in ap (λ (m : ℕ). testbit x m) e))
         (λ o. refl)
-
--- inside the field, bit start + j is the new bit j
-pub testbit-setField-in : (x : ℤ) (start end : ℕ) (g : ℕ → Bool) (j : ℕ) → j < end - start → testbit (setField x start end g) (start + j) ≡ g j
-testbit-setField-in x start end g j h =
-    testbit-setField x start end g (start + j)
-    ∙ ap (λ (b : Bool). cond b (g (start + j - start)) (testbit x (start + j))) (inField-true start end (start + j) (omega arith) (omega arith))
-    ∙ ap g (add-sub-cancel-left start j)
 
 pub setField-not : (x : ℤ) (start end : ℕ) (g : ℕ → Bool) → setField (bitwiseNot x) start end (λ j. not (g j)) ≡ bitwiseNot (setField x start end g)
 setField-not x start end g = testbit-ext λ i.
@@ -99,7 +90,7 @@ pub copyBitField-copyBitField : (x : ℤ) (start end : ℕ) (y z : ℤ) → copy
 unfolding copyBitField
 copyBitField-copyBitField x start end y z =
     setField-ext (setField x start end (λ j. testbit y j)) x start end (λ j. testbit z j) (λ j. testbit z j)
-    (λ i o. testbit-setField x start end (λ j. testbit y j) i ∙ ap (λ (b : Bool). cond b (testbit y (i - start)) (testbit x i)) o)
+    (testbit-setField-out x start end (λ j. testbit y j))
     (λ j h. refl)
 
 -- ---- distribution over the logical operations
@@ -153,7 +144,7 @@ pub permuteField-compose : (p q : ℕ → ℕ) (x : ℤ) (start end : ℕ) → (
 unfolding permuteField
 permuteField-compose p q x start end into =
     setField-ext (permuteField p x start end) x start end (λ j. testbit (permuteField p x start end) (start + q j)) (λ j. testbit x (start + p (q j)))
-    (λ i o. testbit-permuteField p x start end i ∙ ap (λ (b : Bool). cond b (testbit x (start + p (i - start))) (testbit x i)) o)
+    (testbit-setField-out x start end (λ j. testbit x (start + p j)))
     (λ j h. testbit-setField-in x start end (λ j. testbit x (start + p j)) (q j) (into j h))
 
 pub permuteField-not : (p : ℕ → ℕ) (x : ℤ) (start end : ℕ) → permuteField p (bitwiseNot x) start end ≡ bitwiseNot (permuteField p x start end)

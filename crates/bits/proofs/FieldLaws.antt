@@ -2,6 +2,7 @@
 use mathlib.Core.Path.{_≡_, refl, sym, _∙_, ap, ap₂, subst}
 use mathlib.Core.Bool.{Bool, true, false, cond, _&&_, true≢false}
 use Prim.Native.Nat.{ℕ, zero, suc, _+_, _-_, _≤_, _<_}
+use native.Mathlib.Nat.{add-sub-cancel-left}
 use native.Mathlib.Omega.{arith}
 use lib.Dec.{ltb, leb, eqb}
 use lib.IntN.{ℤ, pos, negsuc, _-ℤ_}
@@ -75,6 +76,18 @@ testbit-setField x start end g i =
     pick false true = refl
     pick false false = refl
 
+-- inside the field, bit start + j is the new bit j
+pub testbit-setField-in : (x : ℤ) (start end : ℕ) (g : ℕ → Bool) (j : ℕ) → j < end - start → testbit (setField x start end g) (start + j) ≡ g j
+testbit-setField-in x start end g j h =
+    testbit-setField x start end g (start + j)
+    ∙ ap (λ (b : Bool). cond b (g (start + j - start)) (testbit x (start + j))) (inField-true start end (start + j) (omega arith) (omega arith))
+    ∙ ap g (add-sub-cancel-left start j)
+
+pub testbit-setField-out : (x : ℤ) (start end : ℕ) (g : ℕ → Bool) (i : ℕ)
+    → inField start end i ≡ false → testbit (setField x start end g) i ≡ testbit x i
+testbit-setField-out x start end g i o =
+    testbit-setField x start end g i ∙ ap (λ (b : Bool). cond b (g (i - start)) (testbit x i)) o
+
 pub testbit-bitField : (x : ℤ) (start end j : ℕ) → testbit (bitField x start end) j ≡ ltb j (end - start) && testbit x (start + j)
 unfolding bitField
 testbit-bitField x start end j =
@@ -131,3 +144,7 @@ pub isNegative-setField : (x : ℤ) (start end : ℕ) (g : ℕ → Bool) → isN
 unfolding setField
 isNegative-setField x start end g =
     isNegative-ofBits end (λ i. cond (inField start end i) (g (i - start)) (testbit x i)) (shiftRight x end) ∙ isNegative-shiftRight x end
+
+pub isNegative-permuteField : (p : ℕ → ℕ) (x : ℤ) (start end : ℕ) → isNegative (permuteField p x start end) ≡ isNegative x
+unfolding permuteField
+isNegative-permuteField p x start end = isNegative-setField x start end (λ j. testbit x (start + p j))

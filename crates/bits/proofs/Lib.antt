@@ -8,3 +8,5 @@ pub mod ModLaws
 pub mod FieldLaws
 pub mod FieldAlgebra
 pub mod RotateLaws
+pub mod LengthLaws
+pub mod CountLaws
