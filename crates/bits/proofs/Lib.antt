@@ -10,3 +10,5 @@ pub mod FieldAlgebra
 pub mod RotateLaws
 pub mod LengthLaws
 pub mod CountLaws
+pub mod Locality
+pub mod ListTheorem

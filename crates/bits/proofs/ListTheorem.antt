@@ -1,0 +1,320 @@
+-- Demand 3 on the integers: what every list of rotate and reverse calls on one field does, for any rule `done` that says which
+-- calls are done. `list-theorem` is the one statement about whole lists; each part of the library applies it with its own rule.
+-- Assumes nothing.
+use mathlib.Core.Path.{_≡_, refl, sym, _∙_, ap, ap₂, subst}
+use mathlib.Core.Logic.{_≢_}
+use mathlib.Core.Bool.{Bool, true, false, not, cond, _&&_, xor, true≢false}
+use mathlib.Core.List.{List, [], _∷_, map}
+use Prim.Native.Nat.{ℕ, zero, suc, _+_, _-_, _/_, _%_, _^_, _≤_, _<_}
+use native.Mathlib.Nat.{add-zero, div-self, div-eq-of-lt, add-sub-cancel-left}
+use native.Mathlib.Omega.{arith}
+use lib.Dec.{T, eqb, le→leb, lt→ltb}
+use lib.Pow.{pow-pos, pow-lt}
+use lib.IntN.{ℤ, pos, negsuc, negℤ, _+ℤ_, _-ℤ_, +ℤ-idl, +ℤ-invr, +ℤ-invl}
+use lib.Signed.{_≤ℤ_, _<ℤ_}
+use Rattle.bits.specs.Testbit.{odd, isNegative, testbit, fill}
+use Rattle.bits.specs.Logical.{bitwiseNot, bitwise, bitwiseAll}
+use Rattle.bits.specs.Division.{modℕ, «mod»}
+use Rattle.bits.specs.Field.{inField, permuteField, rotateIndex, reverseIndex, rotateBitField, reverseBitField}
+use Rattle.bits.specs.Count.{bitCount}
+use Rattle.bits.specs.FieldList.{
+  FieldCall,
+  rotate,
+  reverse,
+  runCall,
+  runCalls,
+  countCall,
+  netCountFrom,
+  netCount,
+  isReverse,
+  oddReversals,
+}
+use Rattle.bits.proofs.Booleans.{all₁, all₃}
+use Rattle.bits.proofs.ArgumentLaws.{all-map}
+use Rattle.bits.proofs.ModLaws.{modℕ-lt, modℕ-self, modℕ-inj}
+use Rattle.bits.proofs.FieldLaws.{inField-true, testbit-setField-out, testbit-rotateBitField, isNegative-permuteField}
+use Rattle.bits.proofs.FieldAlgebra.{permuteField-not, permuteField-bitwise, permuteField-fill}
+use Rattle.bits.proofs.RotateLaws.{
+  rotateIndex-lt,
+  rotateIndex-zero,
+  rotateIndex-compose,
+  reverseIndex-lt,
+  reverseIndex-involutive,
+  rotate-zero,
+  rotate-mod,
+  rotate-compose,
+  rotate-opposite,
+  reverse-involutive,
+  reverse-rotate,
+}
+use Rattle.bits.proofs.CountLaws.{Permutes, bitCount-permuteField}
+
+-- ---- the statement
+
+pub record ListLaw (done : FieldCall → Bool) (start end : ℕ) : Type 0 where
+  -- the end number: one reversal if the done reversals are odd in number, and then one rotation by the net count
+  pub end-number : (calls : List FieldCall) (x : ℤ)
+      → runCalls done start end calls x
+      ≡ rotateBitField (cond (oddReversals done calls) (reverseBitField x start end) x) start end (netCount done (end - start) calls)
+  pub net-count : (calls : List FieldCall)
+      → (pos 0 ≤ℤ netCount done (end - start) calls) × (netCount done (end - start) calls <ℤ pos (end - start))
+  -- what every list keeps
+  pub bit-count : (calls : List FieldCall) (x : ℤ) → bitCount (runCalls done start end calls x) ≡ bitCount x
+  pub sign : (calls : List FieldCall) (x : ℤ) → isNegative (runCalls done start end calls x) ≡ isNegative x
+  pub outside : (calls : List FieldCall) (x : ℤ) (i : ℕ)
+      → inField start end i ≡ false → testbit (runCalls done start end calls x) i ≡ testbit x i
+  -- it commutes with not, and distributes over every Boolean operation: of two integers, and of any number of them
+  pub commutes-not : (calls : List FieldCall) (x : ℤ)
+      → runCalls done start end calls (bitwiseNot x) ≡ bitwiseNot (runCalls done start end calls x)
+  pub distributes : (calls : List FieldCall) (op : Bool → Bool → Bool) (x y : ℤ)
+      → runCalls done start end calls (bitwise op x y) ≡ bitwise op (runCalls done start end calls x) (runCalls done start end calls y)
+  pub distributes-all : (calls : List FieldCall) (op : Bool → Bool → Bool) (e : Bool) (xs : List ℤ)
+      → runCalls done start end calls (bitwiseAll op e xs) ≡ bitwiseAll op e (map (runCalls done start end calls) xs)
+  -- different counts differ: at the number whose one bit is the field's first
+  pub counts-differ : (c d : ℕ) → c < end - start → d < end - start → c ≢ d
+      → rotateBitField (pos (2 ^ start)) start end (pos c) ≢ rotateBitField (pos (2 ^ start)) start end (pos d)
+
+-- ---- a list keeps and commutes with what each of its calls does
+
+-- a quantity that no call changes
+keeps : (done : FieldCall → Bool) (start end : ℕ) {A : Type 0} (f : ℤ → A) → ((call : FieldCall) (x : ℤ) → f (runCall start end call x) ≡ f x)
+    → (calls : List FieldCall) (x : ℤ) → f (runCalls done start end calls x) ≡ f x
+unfolding runCalls
+keeps done start end f each [] x = refl
+keeps done start end f each (call ∷ calls) x =
+    keeps done start end f each calls (cond (done call) (runCall start end call x) x) ∙ one (done call)
+  where
+    one : (b : Bool) → f (cond b (runCall start end call x) x) ≡ f x
+    one true = each call x
+    one false = refl
+
+-- an operation that each call distributes over
+over : (done : FieldCall → Bool) (start end : ℕ) (B : ℤ → ℤ → ℤ)
+    → ((call : FieldCall) (x y : ℤ) → runCall start end call (B x y) ≡ B (runCall start end call x) (runCall start end call y))
+    → (calls : List FieldCall) (x y : ℤ) → runCalls done start end calls (B x y) ≡ B (runCalls done start end calls x) (runCalls done start end calls y)
+unfolding runCalls
+over done start end B each [] x y = refl
+over done start end B each (call ∷ calls) x y =
+    ap (runCalls done start end calls) (one (done call))
+    ∙ over done start end B each calls (cond (done call) (runCall start end call x) x) (cond (done call) (runCall start end call y) y)
+  where
+    one : (b : Bool) → cond b (runCall start end call (B x y)) (B x y) ≡ B (cond b (runCall start end call x) x) (cond b (runCall start end call y) y)
+    one true = each call x y
+    one false = refl
+
+-- ---- each call permutes the field
+
+indexMap : ℕ → FieldCall → ℕ → ℕ
+indexMap size (rotate c) = rotateIndex size c
+indexMap size reverse = reverseIndex size
+
+inverseMap : ℕ → FieldCall → ℕ → ℕ
+inverseMap size (rotate c) = rotateIndex size (negℤ c)
+inverseMap size reverse = reverseIndex size
+
+runCall-permutes : (start end : ℕ) (call : FieldCall) (x : ℤ) → runCall start end call x ≡ permuteField (indexMap (end - start) call) x start end
+unfolding runCall indexMap rotateBitField reverseBitField
+runCall-permutes start end (rotate c) x = refl
+runCall-permutes start end reverse x = refl
+
+-- a rotation and its opposite, which add up to none
+undone : (size : ℕ) (c d : ℤ) → c +ℤ d ≡ pos 0 → (i : ℕ) → i < size → rotateIndex size c (rotateIndex size d i) ≡ i
+undone size c d e i h =
+    rotateIndex-compose size (omega arith) c d i ∙ ap (λ (k : ℤ). rotateIndex size k i) e ∙ rotateIndex-zero size (omega arith) i h
+
+permutes : (size : ℕ) (call : FieldCall) → Permutes size (indexMap size call) (inverseMap size call)
+unfolding indexMap inverseMap
+permutes size (rotate c) = record {
+  stays = λ i h. rotateIndex-lt size (omega arith) c i;
+  stays-back = λ i h. rotateIndex-lt size (omega arith) (negℤ c) i;
+  there = undone size c (negℤ c) (+ℤ-invr c);
+  back = undone size (negℤ c) c (+ℤ-invl c);
+}
+permutes size reverse = record {
+  stays = λ i h. reverseIndex-lt size (omega arith) i;
+  stays-back = λ i h. reverseIndex-lt size (omega arith) i;
+  there = λ i h. reverseIndex-involutive size (omega arith) i h;
+  back = λ i h. reverseIndex-involutive size (omega arith) i h;
+}
+
+module _ (start end : ℕ) where
+  call-bitCount : (call : FieldCall) (x : ℤ) → bitCount (runCall start end call x) ≡ bitCount x
+  call-bitCount call x = ap bitCount (runCall-permutes start end call x) ∙ bitCount-permuteField x start end (permutes (end - start) call)
+
+  call-sign : (call : FieldCall) (x : ℤ) → isNegative (runCall start end call x) ≡ isNegative x
+  call-sign call x =
+    ap isNegative (runCall-permutes start end call x) ∙ isNegative-permuteField (indexMap (end - start) call) x start end
+
+  call-outside : (i : ℕ) → inField start end i ≡ false → (call : FieldCall) (x : ℤ) → testbit (runCall start end call x) i ≡ testbit x i
+  unfolding permuteField
+  call-outside i o call x =
+    ap (λ (y : ℤ). testbit y i) (runCall-permutes start end call x)
+    ∙ testbit-setField-out x start end (λ j. testbit x (start + indexMap (end - start) call j)) i o
+
+  call-not : (call : FieldCall) (x y : ℤ) → runCall start end call (bitwiseNot x) ≡ bitwiseNot (runCall start end call x)
+  call-not call x y =
+    runCall-permutes start end call (bitwiseNot x)
+    ∙ permuteField-not (indexMap (end - start) call) x start end
+    ∙ ap bitwiseNot (sym (runCall-permutes start end call x))
+
+  call-bitwise : (op : Bool → Bool → Bool) (call : FieldCall) (x y : ℤ)
+      → runCall start end call (bitwise op x y) ≡ bitwise op (runCall start end call x) (runCall start end call y)
+  call-bitwise op call x y =
+    runCall-permutes start end call (bitwise op x y)
+    ∙ permuteField-bitwise (indexMap (end - start) call) op x y start end
+    ∙ sym (ap₂ (bitwise op) (runCall-permutes start end call x) (runCall-permutes start end call y))
+
+  call-fill : (e : Bool) (call : FieldCall) (x y : ℤ) → runCall start end call (fill e) ≡ fill e
+  call-fill e call x y = runCall-permutes start end call (fill e) ∙ permuteField-fill (indexMap (end - start) call) e start end
+
+-- ---- the end number
+
+-- x reversed if b says so, and then rotated by s
+settled : ℕ → ℕ → Bool → ℤ → ℤ → ℤ
+settled start end b s x = rotateBitField (cond b (reverseBitField x start end) x) start end s
+
+xor-false : (b : Bool) → b ≡ xor false b
+unfolding xor
+xor-false = all₁ (λ b. b) (λ b. xor false b) tt
+
+false-xor : (b : Bool) → xor b false ≡ b
+unfolding xor
+false-xor = all₁ (λ b. xor b false) (λ b. b) tt
+
+xor-turn : (a b c : Bool) → xor a (xor b c) ≡ xor (xor b a) c
+unfolding xor
+xor-turn = all₃ (λ a b c. xor a (xor b c)) (λ a b c. xor (xor b a) c) tt
+
+module _ (start end : ℕ) (h : start < end) where
+  rotated : (y s c : ℤ) → rotateBitField (rotateBitField y start end s) start end c ≡ rotateBitField y start end («mod» (s +ℤ c) (pos (end - start)))
+  rotated y s c = rotate-compose start end h y s c ∙ sym (rotate-mod start end h y (s +ℤ c))
+
+  reversed : (y s : ℤ)
+      → reverseBitField (rotateBitField y start end s) start end
+      ≡ rotateBitField (reverseBitField y start end) start end («mod» (pos (end - start) -ℤ s) (pos (end - start)))
+  reversed y s = reverse-rotate start end h y s ∙ sym (rotate-opposite start end h (reverseBitField y start end) s)
+
+  -- one done call, from a settled form to a settled form
+  call-settled : (call : FieldCall) (b : Bool) (s x : ℤ)
+      → runCall start end call (settled start end b s x) ≡ settled start end (xor (isReverse call) b) (countCall (end - start) call s) x
+  unfolding runCall settled isReverse countCall xor
+  call-settled (rotate c) true s x = rotated (reverseBitField x start end) s c
+  call-settled (rotate c) false s x = rotated x s c
+  call-settled reverse true s x =
+    reversed (reverseBitField x start end) s
+    ∙ ap (λ (y : ℤ). rotateBitField y start end («mod» (pos (end - start) -ℤ s) (pos (end - start)))) (reverse-involutive start end h x)
+  call-settled reverse false s x = reversed x s
+
+  -- one call, done or not
+  step-settled : (t : Bool) (call : FieldCall) (b : Bool) (s x : ℤ)
+      → cond t (runCall start end call (settled start end b s x)) (settled start end b s x)
+      ≡ settled start end (xor (t && isReverse call) b) (cond t (countCall (end - start) call s) s) x
+  step-settled true call b s x = call-settled call b s x
+  step-settled false call b s x = ap (λ (c : Bool). settled start end c s x) (xor-false b)
+
+  -- a list
+  calls-settled : (done : FieldCall → Bool) (calls : List FieldCall) (b : Bool) (s x : ℤ)
+      → runCalls done start end calls (settled start end b s x)
+      ≡ settled start end (xor (oddReversals done calls) b) (netCountFrom done (end - start) calls s) x
+  unfolding runCalls oddReversals netCountFrom
+  calls-settled done [] b s x = ap (λ (c : Bool). settled start end c s x) (xor-false b)
+  calls-settled done (call ∷ calls) b s x =
+    ap (runCalls done start end calls) (step-settled (done call) call b s x)
+    ∙ calls-settled done calls (xor (done call && isReverse call) b) (cond (done call) (countCall (end - start) call s) s) x
+    ∙ ap (λ (c : Bool). settled start end c (netCountFrom done (end - start) calls (cond (done call) (countCall (end - start) call s) s)) x)
+        (xor-turn (oddReversals done calls) (done call && isReverse call) b)
+
+  end-is : (done : FieldCall → Bool) (calls : List FieldCall) (x : ℤ)
+      → runCalls done start end calls x ≡ settled start end (oddReversals done calls) (netCount done (end - start) calls) x
+  unfolding netCount settled
+  end-is done calls x =
+    ap (runCalls done start end calls) (sym (rotate-zero start end h x))
+    ∙ calls-settled done calls false (pos 0) x
+    ∙ ap (λ (c : Bool). settled start end c (netCountFrom done (end - start) calls (pos 0)) x) (false-xor (oddReversals done calls))
+
+-- ---- the net count stays below the size
+
+record Below (size : ℕ) (s : ℤ) : Type 0 where
+  low : pos 0 ≤ℤ s
+  high : s <ℤ pos size
+
+below-mod : (size : ℕ) → 0 < size → (x : ℤ) → Below size («mod» x (pos size))
+unfolding «mod»
+below-mod size h x = record {
+  low = record { le = le→leb 0 (modℕ x size) (omega arith) };
+  high = record { lt = lt→ltb (modℕ x size) size (modℕ-lt x size h) };
+}
+
+below-zero : (size : ℕ) → 0 < size → Below size (pos 0)
+below-zero size h = record { low = record { le = tt }; high = record { lt = lt→ltb 0 size h } }
+
+below-call : (size : ℕ) → 0 < size → (call : FieldCall) (s : ℤ) → Below size (countCall size call s)
+unfolding countCall
+below-call size h (rotate c) s = below-mod size h (s +ℤ c)
+below-call size h reverse s = below-mod size h (pos size -ℤ s)
+
+below-from : (done : FieldCall → Bool) (size : ℕ) → 0 < size → (calls : List FieldCall) (s : ℤ) → Below size s → Below size (netCountFrom done size calls s)
+unfolding netCountFrom
+below-from done size h [] s k = k
+below-from done size h (call ∷ calls) s k =
+    below-from done size h calls (cond (done call) (countCall size call s) s) (one (done call))
+  where
+    one : (b : Bool) → Below size (cond b (countCall size call s) s)
+    one true = below-call size h call s
+    one false = k
+
+-- ---- different counts differ
+
+first-bit : (start : ℕ) → testbit (pos (2 ^ start)) (start + 0) ≡ true
+unfolding testbit odd
+first-bit start = ap (λ (k : ℕ). odd (2 ^ start / 2 ^ k)) (add-zero start) ∙ ap odd (div-self (pow-pos start))
+
+other-bits : (start k : ℕ) → testbit (pos (2 ^ start)) (start + suc k) ≡ false
+unfolding testbit odd
+other-bits start k = let h : start < start + suc k = omega arith in ap odd (div-eq-of-lt (pow-lt h))
+
+module _ (start end : ℕ) (h : start < end) where
+  -- bit start + c of 2^start rotated by d
+  rotated-bit : (c d : ℕ) → c < end - start
+      → testbit (rotateBitField (pos (2 ^ start)) start end (pos d)) (start + c)
+      ≡ testbit (pos (2 ^ start)) (start + modℕ (pos c -ℤ pos d) (end - start))
+  rotated-bit c d l =
+    testbit-rotateBitField (pos (2 ^ start)) start end (pos d) (start + c)
+    ∙ ap (λ (b : Bool). cond b (testbit (pos (2 ^ start)) (start + modℕ (pos (start + c - start) -ℤ pos d) (end - start))) (testbit (pos (2 ^ start)) (start + c)))
+        (inField-true start end (start + c) (omega arith) (omega arith))
+    ∙ ap (λ (k : ℕ). testbit (pos (2 ^ start)) (start + modℕ (pos k -ℤ pos d) (end - start))) (add-sub-cancel-left start c)
+
+  differ : (c d : ℕ) → c < end - start → d < end - start → c ≢ d
+      → rotateBitField (pos (2 ^ start)) start end (pos c) ≢ rotateBitField (pos (2 ^ start)) start end (pos d)
+  differ c d l k ne e = go (modℕ (pos c -ℤ pos d) (end - start)) refl
+    where
+      here : testbit (rotateBitField (pos (2 ^ start)) start end (pos c)) (start + c) ≡ true
+      here = rotated-bit c c l ∙ ap (λ (m : ℕ). testbit (pos (2 ^ start)) (start + m)) (modℕ-self (pos c) (end - start)) ∙ first-bit start
+
+      go : (m : ℕ) → modℕ (pos c -ℤ pos d) (end - start) ≡ m → ⊥
+      go zero z = ne (modℕ-inj c d (end - start) l k z)
+      go (suc m) z =
+        true≢false
+        (sym here
+        ∙ ap (λ (y : ℤ). testbit y (start + c)) e
+        ∙ rotated-bit c d l
+        ∙ ap (λ (n : ℕ). testbit (pos (2 ^ start)) (start + n)) z
+        ∙ other-bits start m)
+
+-- ---- the theorem
+
+pub list-theorem : (done : FieldCall → Bool) (start end : ℕ) → start < end → ListLaw done start end
+unfolding settled netCount
+list-theorem done start end h = record {
+  end-number = end-is start end h done;
+  net-count = λ calls. let k = below-from done (end - start) (omega arith) calls (pos 0) (below-zero (end - start) (omega arith)) in (k .low, k .high);
+  bit-count = keeps done start end bitCount (call-bitCount start end);
+  sign = keeps done start end isNegative (call-sign start end);
+  outside = λ calls x i o. keeps done start end (λ (y : ℤ). testbit y i) (call-outside start end i o) calls x;
+  commutes-not = λ calls x. over done start end (λ x y. bitwiseNot x) (call-not start end) calls x x;
+  distributes = λ calls op. over done start end (bitwise op) (call-bitwise start end op) calls;
+  distributes-all = λ calls op e.
+    all-map op e (runCalls done start end calls) (over done start end (λ x y. fill e) (call-fill start end e) calls (pos 0) (pos 0))
+    (over done start end (bitwise op) (call-bitwise start end op) calls);
+  counts-differ = differ start end h;
+}
