@@ -2,3 +2,4 @@ pub mod Cases
 pub mod TestbitLaws
 pub mod LogicalLaws
 pub mod FieldLaws
+pub mod ShiftLaws
