@@ -4,3 +4,4 @@ pub mod LogicalLaws
 pub mod FieldLaws
 pub mod ShiftLaws
 pub mod ModLaws
+pub mod Samples

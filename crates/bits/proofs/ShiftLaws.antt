@@ -16,19 +16,22 @@ use native.Mathlib.Nat.{
   add-sub-cancel-left,
 }
 use native.Mathlib.Omega.{arith}
-use lib.Dec.{ltb, le→leb, leb→le}
+use lib.Dec.{ltb, eqb, eqb·zero-suc, eqb·suc-zero, eqb·suc-suc, le→leb, leb→le}
 use lib.IntN.{ℤ, pos, negsuc, negℤ, _+ℤ_, +ℤ-idr}
 use lib.Signed.{_≤ℤ_, leZ-yes}
+use borrow.Author.Tests.{le-ltb}
 use Rattle.bits.specs.Testbit.{isNegative, testbit, bitLength, fill, consBit, ofBits}
 use Rattle.bits.specs.Logical.{bitwiseNot, bitwise, bitwiseAnd}
 use Rattle.bits.specs.Shift.{floorDiv, shiftLeft, shiftRight, arithmeticShift}
 use Rattle.bits.proofs.TestbitLaws.{
   by-lt,
   testbit-ext,
+  testbit-zero,
+  testbit-consBit-zero,
+  testbit-consBit-suc,
   testbit-fill,
   testbit-above,
   testbit-ofBits,
-  testbit-ofBits-ge,
   isNegative-ofBits,
   testbit-shiftRight,
   isNegative-shiftRight,
@@ -77,6 +80,9 @@ testbit-shiftLeft x k i =
     pick true a = refl
     pick false a = refl
 
+pub testbit-shiftLeft-ge : (x : ℤ) (k i : ℕ) → k ≤ i → testbit (shiftLeft x k) i ≡ testbit x (i - k)
+testbit-shiftLeft-ge x k i h = testbit-shiftLeft x k i ∙ ap (λ (b : Bool). not b && testbit x (i - k)) (le-ltb i k h)
+
 pub isNegative-shiftLeft : (x : ℤ) (k : ℕ) → isNegative (shiftLeft x k) ≡ isNegative x
 isNegative-shiftLeft x k = ap isNegative (shiftLeft-ofBits x k) ∙ isNegative-ofBits k (λ i. false) x
 
@@ -92,6 +98,25 @@ pub isNegative-arithmeticShift : (x d : ℤ) → isNegative (arithmeticShift x d
 unfolding arithmeticShift
 isNegative-arithmeticShift x (pos k) = isNegative-shiftLeft x k
 isNegative-arithmeticShift x (negsuc k) = isNegative-shiftRight x (suc k)
+
+-- 1 to the left: a one at k, and zeros elsewhere
+pub testbit-shiftLeft-one : (k i : ℕ) → testbit (shiftLeft (pos 1) k) i ≡ eqb i k
+unfolding consBit
+testbit-shiftLeft-one zero zero = ap (λ (x : ℤ). testbit x 0) (shiftLeft-zero (pos 1)) ∙ testbit-consBit-zero true (pos 0)
+testbit-shiftLeft-one zero (suc i) =
+    ap (λ (x : ℤ). testbit x (suc i)) (shiftLeft-zero (pos 1))
+    ∙ testbit-consBit-suc true (pos 0) i
+    ∙ testbit-zero i
+    ∙ sym (eqb·suc-zero i)
+testbit-shiftLeft-one (suc k) zero =
+    ap (λ (x : ℤ). testbit x 0) (shiftLeft-suc (pos 1) k)
+    ∙ testbit-consBit-zero false (shiftLeft (pos 1) k)
+    ∙ sym (eqb·zero-suc k)
+testbit-shiftLeft-one (suc k) (suc i) =
+    ap (λ (x : ℤ). testbit x (suc i)) (shiftLeft-suc (pos 1) k)
+    ∙ testbit-consBit-suc false (shiftLeft (pos 1) k) i
+    ∙ testbit-shiftLeft-one k i
+    ∙ sym (eqb·suc-suc i k)
 
 -- -1 to the left: k zeros, and from there on ones
 pub testbit-shiftLeft-ones : (k i : ℕ) → testbit (shiftLeft (negsuc 0) k) i ≡ not (ltb i k)
@@ -135,8 +160,7 @@ shiftRight-compose x j k = testbit-ext (λ i. testbit-shiftRight (shiftRight x j
 -- left and back
 pub shiftRight-shiftLeft : (x : ℤ) (k : ℕ) → shiftRight (shiftLeft x k) k ≡ x
 shiftRight-shiftLeft x k = testbit-ext (λ i. testbit-shiftRight (shiftLeft x k) k i
-    ∙ ap (λ (y : ℤ). testbit y (k + i)) (shiftLeft-ofBits x k)
-    ∙ testbit-ofBits-ge k (λ i. false) x (k + i) (omega arith)
+    ∙ testbit-shiftLeft-ge x k (k + i) (omega arith)
     ∙ ap (testbit x) (add-sub-cancel-left k i))
 
 pub shiftRight-shiftLeft-le : (x : ℤ) (j k : ℕ) → k ≤ j → shiftRight (shiftLeft x j) k ≡ shiftLeft x (j - k)
