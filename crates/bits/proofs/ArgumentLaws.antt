@@ -46,8 +46,8 @@ module _ (op : Bool → Bool → Bool) (e : Bool) (identity : (a : Bool) → op 
 
   pub all-two : (x y : ℤ) → bitwiseAll op e (x ∷ y ∷ []) ≡ bitwise op x y
   all-two x y =
-    testbit-ext λ i.
-    testbit-all op e (x ∷ y ∷ []) i ∙ ap (λ (b : Bool). op b (testbit y i)) (identity (testbit x i)) ∙ sym (testbit-bitwise op x y i)
+      testbit-ext λ i.
+      testbit-all op e (x ∷ y ∷ []) i ∙ ap (λ (b : Bool). op b (testbit y i)) (identity (testbit x i)) ∙ sym (testbit-bitwise op x y i)
 
 -- an associative op with identity e: the arguments may be grouped at will
 module _ (op : Bool → Bool → Bool) (e : Bool) (identity-r : (a : Bool) → op a e ≡ a) (assoc : (a b c : Bool) → op (op a b) c ≡ op a (op b c)) where
@@ -61,10 +61,10 @@ module _ (op : Bool → Bool → Bool) (e : Bool) (identity-r : (a : Bool) → o
 
   pub all-append : (xs ys : List ℤ) → bitwiseAll op e (xs ++ ys) ≡ bitwise op (bitwiseAll op e xs) (bitwiseAll op e ys)
   all-append xs ys =
-    testbit-ext λ i.
-    testbit-all op e (xs ++ ys) i
-    ∙ fold-append xs ys e i
-    ∙ sym (testbit-bitwise op (bitwiseAll op e xs) (bitwiseAll op e ys) i ∙ ap₂ op (testbit-all op e xs i) (testbit-all op e ys i))
+      testbit-ext λ i.
+      testbit-all op e (xs ++ ys) i
+      ∙ fold-append xs ys e i
+      ∙ sym (testbit-bitwise op (bitwiseAll op e xs) (bitwiseAll op e ys) i ∙ ap₂ op (testbit-all op e xs i) (testbit-all op e ys i))
 
 -- ---- a map that commutes with the operation and its identity commutes with it over any number of arguments
 

@@ -30,7 +30,7 @@ pub setField-ext : (x y : ℤ) (start end : ℕ) (g h : ℕ → Bool)
 setField-ext x y start end g h out into = testbit-ext λ i.
     testbit-setField x start end g i
     ∙ by-field (λ b. cond b (g (i - start)) (testbit x i) ≡ cond b (h (i - start)) (testbit y i)) start end i
-        (λ l u. into (i - start) (omega arith)) (out i)
+    (λ l u. into (i - start) (omega arith)) (out i)
     ∙ sym (testbit-setField y start end h i)
 
 -- the bits that the field has already
@@ -38,8 +38,8 @@ pub setField-same : (x : ℤ) (start end : ℕ) (g : ℕ → Bool) → ((j : ℕ
 setField-same x start end g into = testbit-ext λ i.
     testbit-setField x start end g i
     ∙ by-field (λ b. cond b (g (i - start)) (testbit x i) ≡ testbit x i) start end i
-        (λ l u. into (i - start) (omega arith) ∙ (let e : start + (i - start) ≡ i = omega arith in ap (λ (m : ℕ). testbit x m) e))
-        (λ o. refl)
+    (λ l u. into (i - start) (omega arith) ∙ (let e : start + (i - start) ≡ i = omega arith in ap (λ (m : ℕ). testbit x m) e))
+    (λ o. refl)
 
 pub setField-not : (x : ℤ) (start end : ℕ) (g : ℕ → Bool) → setField (bitwiseNot x) start end (λ j. not (g j)) ≡ bitwiseNot (setField x start end g)
 setField-not x start end g = testbit-ext λ i.
@@ -59,7 +59,7 @@ setField-bitwise op x y start end g h = testbit-ext λ i.
     ∙ ap (λ (b : Bool). cond (inField start end i) (op (g (i - start)) (h (i - start))) b) (testbit-bitwise op x y i)
     ∙ pick (inField start end i) (g (i - start)) (h (i - start)) (testbit x i) (testbit y i)
     ∙ sym (testbit-bitwise op (setField x start end g) (setField y start end h) i
-        ∙ ap₂ op (testbit-setField x start end g i) (testbit-setField y start end h i))
+    ∙ ap₂ op (testbit-setField x start end g i) (testbit-setField y start end h i))
   where
     pick : (c a b d e : Bool) → cond c (op a b) (op d e) ≡ op (cond c a d) (cond c b e)
     pick true a b d e = refl
@@ -73,10 +73,10 @@ unfolding copyBitField
 bitField-copyBitField x start end y = testbit-ext λ j.
     testbit-bitField (setField x start end (λ j. testbit y j)) start end j
     ∙ by-lt (λ b. b && testbit (setField x start end (λ j. testbit y j)) (start + j) ≡ b && testbit y j) j (end - start)
-        (testbit-setField-in x start end (λ j. testbit y j) j) (λ h. refl)
+    (testbit-setField-in x start end (λ j. testbit y j) j) (λ h. refl)
     ∙ sym (testbit-bitField y 0 (end - start) j
-        ∙ (let e : end - start - 0 ≡ end - start = omega arith in ap (λ (m : ℕ). ltb j m && testbit y (0 + j)) e)
-        ∙ (let e : 0 + j ≡ j = omega arith in ap (λ (m : ℕ). ltb j (end - start) && testbit y m) e))
+    ∙ (let e : end - start - 0 ≡ end - start = omega arith in ap (λ (m : ℕ). ltb j m && testbit y (0 + j)) e)
+    ∙ (let e : 0 + j ≡ j = omega arith in ap (λ (m : ℕ). ltb j (end - start) && testbit y m) e))
 
 -- putting back what was got changes nothing
 pub copyBitField-bitField : (x : ℤ) (start end : ℕ) → copyBitField x start end (bitField x start end) ≡ x
@@ -100,7 +100,7 @@ pub copyBitField-bitwise : (op : Bool → Bool → Bool) (x y : ℤ) (start end 
 unfolding copyBitField
 copyBitField-bitwise op x y start end u v =
     setField-ext (bitwise op x y) (bitwise op x y) start end (λ j. testbit (bitwise op u v) j) (λ j. op (testbit u j) (testbit v j))
-        (λ i o. refl) (λ j h. testbit-bitwise op u v j)
+    (λ i o. refl) (λ j h. testbit-bitwise op u v j)
     ∙ setField-bitwise op x y start end (λ j. testbit u j) (λ j. testbit v j)
 
 pub copyBitField-not : (x : ℤ) (start end : ℕ) (u : ℤ)
@@ -108,7 +108,7 @@ pub copyBitField-not : (x : ℤ) (start end : ℕ) (u : ℤ)
 unfolding copyBitField
 copyBitField-not x start end u =
     setField-ext (bitwiseNot x) (bitwiseNot x) start end (λ j. testbit (bitwiseNot u) j) (λ j. not (testbit u j))
-        (λ i o. refl) (λ j h. testbit-not u j)
+    (λ i o. refl) (λ j h. testbit-not u j)
     ∙ setField-not x start end (λ j. testbit u j)
 
 -- a field is 0 above its size, so the operation must keep 0 there
@@ -119,7 +119,7 @@ bitField-bitwise op keeps x y start end = testbit-ext λ j.
     ∙ ap (λ (b : Bool). ltb j (end - start) && b) (testbit-bitwise op x y (start + j))
     ∙ pick (ltb j (end - start)) (testbit x (start + j)) (testbit y (start + j))
     ∙ sym (testbit-bitwise op (bitField x start end) (bitField y start end) j
-        ∙ ap₂ op (testbit-bitField x start end j) (testbit-bitField y start end j))
+    ∙ ap₂ op (testbit-bitField x start end j) (testbit-bitField y start end j))
   where
     pick : (c a b : Bool) → c && op a b ≡ op (c && a) (c && b)
     pick true a b = refl
@@ -151,7 +151,7 @@ pub permuteField-not : (p : ℕ → ℕ) (x : ℤ) (start end : ℕ) → permute
 unfolding permuteField
 permuteField-not p x start end =
     setField-ext (bitwiseNot x) (bitwiseNot x) start end (λ j. testbit (bitwiseNot x) (start + p j)) (λ j. not (testbit x (start + p j)))
-        (λ i o. refl) (λ j h. testbit-not x (start + p j))
+    (λ i o. refl) (λ j h. testbit-not x (start + p j))
     ∙ setField-not x start end (λ j. testbit x (start + p j))
 
 pub permuteField-bitwise : (p : ℕ → ℕ) (op : Bool → Bool → Bool) (x y : ℤ) (start end : ℕ)
@@ -159,7 +159,7 @@ pub permuteField-bitwise : (p : ℕ → ℕ) (op : Bool → Bool → Bool) (x y 
 unfolding permuteField
 permuteField-bitwise p op x y start end =
     setField-ext (bitwise op x y) (bitwise op x y) start end (λ j. testbit (bitwise op x y) (start + p j))
-        (λ j. op (testbit x (start + p j)) (testbit y (start + p j))) (λ i o. refl) (λ j h. testbit-bitwise op x y (start + p j))
+    (λ j. op (testbit x (start + p j)) (testbit y (start + p j))) (λ i o. refl) (λ j h. testbit-bitwise op x y (start + p j))
     ∙ setField-bitwise op x y start end (λ j. testbit x (start + p j)) (λ j. testbit y (start + p j))
 
 -- 0 and -1 stay as they are

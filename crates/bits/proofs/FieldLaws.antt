@@ -22,6 +22,7 @@ use Rattle.bits.specs.Field.{
   rotateBitField,
   reverseBitField,
 }
+use Rattle.bits.proofs.Booleans.{all₁}
 use Rattle.bits.proofs.TestbitLaws.{
   by-lt,
   testbit-ext,
@@ -47,8 +48,7 @@ unfolding inField
 inField-ge start end i h = ap (λ (b : Bool). leb start i && b) (le-ltb i end h) ∙ and-false (leb start i)
   where
     and-false : (b : Bool) → b && false ≡ false
-    and-false true = refl
-    and-false false = refl
+    and-false = all₁ (λ b. b && false) (λ b. false) tt
 
 -- a choice by the test whether i lies in the field, decided
 pub by-field : (P : Bool → Type 0) (start end i : ℕ)

@@ -143,26 +143,26 @@ module _ (start end : ℕ) where
 
   call-sign : (call : FieldCall) (x : ℤ) → isNegative (runCall start end call x) ≡ isNegative x
   call-sign call x =
-    ap isNegative (runCall-permutes start end call x) ∙ isNegative-permuteField (indexMap (end - start) call) x start end
+      ap isNegative (runCall-permutes start end call x) ∙ isNegative-permuteField (indexMap (end - start) call) x start end
 
   call-outside : (i : ℕ) → inField start end i ≡ false → (call : FieldCall) (x : ℤ) → testbit (runCall start end call x) i ≡ testbit x i
   unfolding permuteField
   call-outside i o call x =
-    ap (λ (y : ℤ). testbit y i) (runCall-permutes start end call x)
-    ∙ testbit-setField-out x start end (λ j. testbit x (start + indexMap (end - start) call j)) i o
+      ap (λ (y : ℤ). testbit y i) (runCall-permutes start end call x)
+      ∙ testbit-setField-out x start end (λ j. testbit x (start + indexMap (end - start) call j)) i o
 
   call-not : (call : FieldCall) (x y : ℤ) → runCall start end call (bitwiseNot x) ≡ bitwiseNot (runCall start end call x)
   call-not call x y =
-    runCall-permutes start end call (bitwiseNot x)
-    ∙ permuteField-not (indexMap (end - start) call) x start end
-    ∙ ap bitwiseNot (sym (runCall-permutes start end call x))
+      runCall-permutes start end call (bitwiseNot x)
+      ∙ permuteField-not (indexMap (end - start) call) x start end
+      ∙ ap bitwiseNot (sym (runCall-permutes start end call x))
 
   call-bitwise : (op : Bool → Bool → Bool) (call : FieldCall) (x y : ℤ)
       → runCall start end call (bitwise op x y) ≡ bitwise op (runCall start end call x) (runCall start end call y)
   call-bitwise op call x y =
-    runCall-permutes start end call (bitwise op x y)
-    ∙ permuteField-bitwise (indexMap (end - start) call) op x y start end
-    ∙ sym (ap₂ (bitwise op) (runCall-permutes start end call x) (runCall-permutes start end call y))
+      runCall-permutes start end call (bitwise op x y)
+      ∙ permuteField-bitwise (indexMap (end - start) call) op x y start end
+      ∙ sym (ap₂ (bitwise op) (runCall-permutes start end call x) (runCall-permutes start end call y))
 
   call-fill : (e : Bool) (call : FieldCall) (x y : ℤ) → runCall start end call (fill e) ≡ fill e
   call-fill e call x y = runCall-permutes start end call (fill e) ∙ permuteField-fill (indexMap (end - start) call) e start end
@@ -201,8 +201,8 @@ module _ (start end : ℕ) (h : start < end) where
   call-settled (rotate c) true s x = rotated (reverseBitField x start end) s c
   call-settled (rotate c) false s x = rotated x s c
   call-settled reverse true s x =
-    reversed (reverseBitField x start end) s
-    ∙ ap (λ (y : ℤ). rotateBitField y start end («mod» (pos (end - start) -ℤ s) (pos (end - start)))) (reverse-involutive start end h x)
+      reversed (reverseBitField x start end) s
+      ∙ ap (λ (y : ℤ). rotateBitField y start end («mod» (pos (end - start) -ℤ s) (pos (end - start)))) (reverse-involutive start end h x)
   call-settled reverse false s x = reversed x s
 
   -- one call, done or not
@@ -219,18 +219,18 @@ module _ (start end : ℕ) (h : start < end) where
   unfolding runCalls oddReversals netCountFrom
   calls-settled done [] b s x = ap (λ (c : Bool). settled start end c s x) (xor-false b)
   calls-settled done (call ∷ calls) b s x =
-    ap (runCalls done start end calls) (step-settled (done call) call b s x)
-    ∙ calls-settled done calls (xor (done call && isReverse call) b) (cond (done call) (countCall (end - start) call s) s) x
-    ∙ ap (λ (c : Bool). settled start end c (netCountFrom done (end - start) calls (cond (done call) (countCall (end - start) call s) s)) x)
-        (xor-turn (oddReversals done calls) (done call && isReverse call) b)
+      ap (runCalls done start end calls) (step-settled (done call) call b s x)
+      ∙ calls-settled done calls (xor (done call && isReverse call) b) (cond (done call) (countCall (end - start) call s) s) x
+      ∙ ap (λ (c : Bool). settled start end c (netCountFrom done (end - start) calls (cond (done call) (countCall (end - start) call s) s)) x)
+      (xor-turn (oddReversals done calls) (done call && isReverse call) b)
 
   end-is : (done : FieldCall → Bool) (calls : List FieldCall) (x : ℤ)
       → runCalls done start end calls x ≡ settled start end (oddReversals done calls) (netCount done (end - start) calls) x
   unfolding netCount settled
   end-is done calls x =
-    ap (runCalls done start end calls) (sym (rotate-zero start end h x))
-    ∙ calls-settled done calls false (pos 0) x
-    ∙ ap (λ (c : Bool). settled start end c (netCountFrom done (end - start) calls (pos 0)) x) (false-xor (oddReversals done calls))
+      ap (runCalls done start end calls) (sym (rotate-zero start end h x))
+      ∙ calls-settled done calls false (pos 0) x
+      ∙ ap (λ (c : Bool). settled start end c (netCountFrom done (end - start) calls (pos 0)) x) (false-xor (oddReversals done calls))
 
 -- ---- the net count stays below the size
 
@@ -279,10 +279,10 @@ module _ (start end : ℕ) (h : start < end) where
       → testbit (rotateBitField (pos (2 ^ start)) start end (pos d)) (start + c)
       ≡ testbit (pos (2 ^ start)) (start + modℕ (pos c -ℤ pos d) (end - start))
   rotated-bit c d l =
-    testbit-rotateBitField (pos (2 ^ start)) start end (pos d) (start + c)
-    ∙ ap (λ (b : Bool). cond b (testbit (pos (2 ^ start)) (start + modℕ (pos (start + c - start) -ℤ pos d) (end - start))) (testbit (pos (2 ^ start)) (start + c)))
-        (inField-true start end (start + c) (omega arith) (omega arith))
-    ∙ ap (λ (k : ℕ). testbit (pos (2 ^ start)) (start + modℕ (pos k -ℤ pos d) (end - start))) (add-sub-cancel-left start c)
+      testbit-rotateBitField (pos (2 ^ start)) start end (pos d) (start + c)
+      ∙ ap (λ (b : Bool). cond b (testbit (pos (2 ^ start)) (start + modℕ (pos (start + c - start) -ℤ pos d) (end - start))) (testbit (pos (2 ^ start)) (start + c)))
+      (inField-true start end (start + c) (omega arith) (omega arith))
+      ∙ ap (λ (k : ℕ). testbit (pos (2 ^ start)) (start + modℕ (pos k -ℤ pos d) (end - start))) (add-sub-cancel-left start c)
 
   differ : (c d : ℕ) → c < end - start → d < end - start → c ≢ d
       → rotateBitField (pos (2 ^ start)) start end (pos c) ≢ rotateBitField (pos (2 ^ start)) start end (pos d)
@@ -294,12 +294,12 @@ module _ (start end : ℕ) (h : start < end) where
       go : (m : ℕ) → modℕ (pos c -ℤ pos d) (end - start) ≡ m → ⊥
       go zero z = ne (modℕ-inj c d (end - start) l k z)
       go (suc m) z =
-        true≢false
-        (sym here
-        ∙ ap (λ (y : ℤ). testbit y (start + c)) e
-        ∙ rotated-bit c d l
-        ∙ ap (λ (n : ℕ). testbit (pos (2 ^ start)) (start + n)) z
-        ∙ other-bits start m)
+          true≢false
+          (sym here
+          ∙ ap (λ (y : ℤ). testbit y (start + c)) e
+          ∙ rotated-bit c d l
+          ∙ ap (λ (n : ℕ). testbit (pos (2 ^ start)) (start + n)) z
+          ∙ other-bits start m)
 
 -- ---- the theorem
 
@@ -314,7 +314,7 @@ list-theorem done start end h = record {
   commutes-not = λ calls x. over done start end (λ x y. bitwiseNot x) (call-not start end) calls x x;
   distributes = λ calls op. over done start end (bitwise op) (call-bitwise start end op) calls;
   distributes-all = λ calls op e.
-    all-map op e (runCalls done start end calls) (over done start end (λ x y. fill e) (call-fill start end e) calls (pos 0) (pos 0))
-    (over done start end (bitwise op) (call-bitwise start end op) calls);
+      all-map op e (runCalls done start end calls) (over done start end (λ x y. fill e) (call-fill start end e) calls (pos 0) (pos 0))
+      (over done start end (bitwise op) (call-bitwise start end op) calls);
   counts-differ = differ start end h;
 }

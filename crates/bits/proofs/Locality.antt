@@ -36,11 +36,11 @@ module _ {f g : ℤ → ℤ} (a b c d : ℕ) (F : FieldLocal a b f) (G : FieldLo
 
   commute-bit : (x : ℤ) (i : ℕ) (s t : Bool) → inField a b i ≡ s → inField c d i ≡ t → testbit (f (g x)) i ≡ testbit (g (f x)) i
   commute-bit x i true t p q =
-    F .inside (g x) x (λ j k. G .outside x j (apart j k)) i p ∙ sym (G .outside (f x) i (apart i p))
+      F .inside (g x) x (λ j k. G .outside x j (apart j k)) i p ∙ sym (G .outside (f x) i (apart i p))
   commute-bit x i false true p q =
-    F .outside (g x) i p ∙ sym (G .inside (f x) x (λ j k. F .outside x j (apart-back j k)) i q)
+      F .outside (g x) i p ∙ sym (G .inside (f x) x (λ j k. F .outside x j (apart-back j k)) i q)
   commute-bit x i false false p q =
-    F .outside (g x) i p ∙ G .outside x i q ∙ sym (G .outside (f x) i q ∙ F .outside x i p)
+      F .outside (g x) i p ∙ G .outside x i q ∙ sym (G .outside (f x) i q ∙ F .outside x i p)
 
   pub fields-commute : (x : ℤ) → f (g x) ≡ g (f x)
   fields-commute x = testbit-ext λ i. commute-bit x i (inField a b i) (inField c d i) refl refl
@@ -67,10 +67,10 @@ local-setField : (start end : ℕ) (g : ℤ → ℕ → Bool)
 local-setField start end g same = record {
   outside = λ x i o. testbit-setField-out x start end (g x) i o;
   inside = λ x y agree i k.
-    testbit-setField x start end (g x) i
-    ∙ ap (λ (b : Bool). cond b (g x (i - start)) (testbit x i)) k
-    ∙ same x y agree (i - start) (omega (arith, inField-positions start end i k))
-    ∙ sym (testbit-setField y start end (g y) i ∙ ap (λ (b : Bool). cond b (g y (i - start)) (testbit y i)) k);
+      testbit-setField x start end (g x) i
+      ∙ ap (λ (b : Bool). cond b (g x (i - start)) (testbit x i)) k
+      ∙ same x y agree (i - start) (omega (arith, inField-positions start end i k))
+      ∙ sym (testbit-setField y start end (g y) i ∙ ap (λ (b : Bool). cond b (g y (i - start)) (testbit y i)) k);
 }
 
 pub local-copyBitField : (start end : ℕ) (y : ℤ) → FieldLocal start end (λ x. copyBitField x start end y)

@@ -7,6 +7,7 @@ use lib.Dec.{ltb}
 use lib.IntN.{ℤ, pos, negsuc}
 use Rattle.bits.specs.Testbit.{odd, isNegative, testbit, bitLength, fill, ofBits}
 use Rattle.bits.specs.Logical.{bitwiseNot, bitwise, bitwiseAnd, bitwiseIor, bitwiseXor, bitwiseFrom, bitwiseAll, bitwiseAnds, bitwiseIors, bitwiseXors, bitwiseIf}
+use Rattle.bits.proofs.Booleans.{all₁}
 use Rattle.bits.proofs.TestbitLaws.{
   by-lt,
   testbit-ext,
@@ -20,8 +21,7 @@ use Rattle.bits.proofs.TestbitLaws.{
 -- ---- bits
 
 pub not-not : (b : Bool) → not (not b) ≡ b
-not-not true = refl
-not-not false = refl
+not-not = all₁ (λ b. not (not b)) (λ b. b) tt
 
 pub testbit-not : (x : ℤ) (i : ℕ) → testbit (bitwiseNot x) i ≡ not (testbit x i)
 unfolding testbit bitwiseNot

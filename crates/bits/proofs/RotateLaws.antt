@@ -25,9 +25,9 @@ module _ (size : ℕ) (h : 0 < size) where
   pub rotateIndex-compose : (a b : ℤ) (j : ℕ) → rotateIndex size a (rotateIndex size b j) ≡ rotateIndex size (a +ℤ b) j
   unfolding rotateIndex
   rotateIndex-compose a b j =
-    modℕ-sub-l (pos j -ℤ b) a size h
-    ∙ ap (λ (x : ℤ). modℕ x size)
-        (+ℤ-assoc (pos j) (negℤ b) (negℤ a) ∙ ap (λ (x : ℤ). pos j +ℤ x) (+ℤ-comm (negℤ b) (negℤ a) ∙ sym (negℤ-+ℤ a b)))
+      modℕ-sub-l (pos j -ℤ b) a size h
+      ∙ ap (λ (x : ℤ). modℕ x size)
+      (+ℤ-assoc (pos j) (negℤ b) (negℤ a) ∙ ap (λ (x : ℤ). pos j +ℤ x) (+ℤ-comm (negℤ b) (negℤ a) ∙ sym (negℤ-+ℤ a b)))
 
   -- only the count modulo the size matters
   pub rotateIndex-mod : (c : ℤ) (j : ℕ) → rotateIndex size («mod» c (pos size)) j ≡ rotateIndex size c j
@@ -37,9 +37,9 @@ module _ (size : ℕ) (h : 0 < size) where
   pub rotateIndex-period : (c : ℤ) (j : ℕ) → rotateIndex size (pos size +ℤ c) j ≡ rotateIndex size c j
   unfolding «mod»
   rotateIndex-period c j =
-    sym (rotateIndex-mod (pos size +ℤ c) j)
-    ∙ ap (λ (n : ℕ). rotateIndex size (pos n) j) (ap (λ (x : ℤ). modℕ x size) (+ℤ-comm (pos size) c) ∙ modℕ-period c size)
-    ∙ rotateIndex-mod c j
+      sym (rotateIndex-mod (pos size +ℤ c) j)
+      ∙ ap (λ (n : ℕ). rotateIndex size (pos n) j) (ap (λ (x : ℤ). modℕ x size) (+ℤ-comm (pos size) c) ∙ modℕ-period c size)
+      ∙ rotateIndex-mod c j
 
   pub reverseIndex-lt : (j : ℕ) → reverseIndex size j < size
   unfolding reverseIndex
@@ -58,10 +58,10 @@ module _ (size : ℕ) (h : 0 < size) where
   pub reverseIndex-rotateIndex : (c : ℤ) (j : ℕ) → j < size → rotateIndex size c (reverseIndex size j) ≡ reverseIndex size (rotateIndex size (negℤ c) j)
   unfolding rotateIndex reverseIndex bitwiseNot
   reverseIndex-rotateIndex c j l =
-    ap (λ (n : ℕ). modℕ (pos n -ℤ c) size) (sym (reverseIndex-mod j l))
-    ∙ modℕ-sub-l (negsuc j) c size h
-    ∙ ap (λ (x : ℤ). modℕ x size) (sym (not-add (pos j) (negℤ (negℤ c)) ∙ ap (λ (x : ℤ). negsuc j -ℤ x) (negℤ-negℤ c)))
-    ∙ modℕ-not (pos j -ℤ negℤ c) size h
+      ap (λ (n : ℕ). modℕ (pos n -ℤ c) size) (sym (reverseIndex-mod j l))
+      ∙ modℕ-sub-l (negsuc j) c size h
+      ∙ ap (λ (x : ℤ). modℕ x size) (sym (not-add (pos j) (negℤ (negℤ c)) ∙ ap (λ (x : ℤ). negsuc j -ℤ x) (negℤ-negℤ c)))
+      ∙ modℕ-not (pos j -ℤ negℤ c) size h
 
 -- ---- the operations, on a field that is not empty
 
@@ -76,42 +76,42 @@ module _ (start end : ℕ) (h : start < end) where
   pub rotate-mod : (x : ℤ) (c : ℤ) → rotateBitField x start end («mod» c (pos (end - start))) ≡ rotateBitField x start end c
   unfolding rotateBitField
   rotate-mod x c =
-    permuteField-ext (rotateIndex (end - start) («mod» c (pos (end - start)))) (rotateIndex (end - start) c) x start end
-    (λ j l. rotateIndex-mod (end - start) size-pos c j)
+      permuteField-ext (rotateIndex (end - start) («mod» c (pos (end - start)))) (rotateIndex (end - start) c) x start end
+      (λ j l. rotateIndex-mod (end - start) size-pos c j)
 
   pub rotate-compose : (x : ℤ) (a b : ℤ) → rotateBitField (rotateBitField x start end a) start end b ≡ rotateBitField x start end (a +ℤ b)
   unfolding rotateBitField
   rotate-compose x a b =
-    permuteField-compose (rotateIndex (end - start) a) (rotateIndex (end - start) b) x start end
-        (λ j l. rotateIndex-lt (end - start) size-pos b j)
-    ∙ permuteField-ext (λ j. rotateIndex (end - start) a (rotateIndex (end - start) b j)) (rotateIndex (end - start) (a +ℤ b)) x start end
-        (λ j l. rotateIndex-compose (end - start) size-pos a b j)
+      permuteField-compose (rotateIndex (end - start) a) (rotateIndex (end - start) b) x start end
+      (λ j l. rotateIndex-lt (end - start) size-pos b j)
+      ∙ permuteField-ext (λ j. rotateIndex (end - start) a (rotateIndex (end - start) b j)) (rotateIndex (end - start) (a +ℤ b)) x start end
+      (λ j l. rotateIndex-compose (end - start) size-pos a b j)
 
   pub reverse-involutive : (x : ℤ) → reverseBitField (reverseBitField x start end) start end ≡ x
   unfolding reverseBitField
   reverse-involutive x =
-    permuteField-compose (reverseIndex (end - start)) (reverseIndex (end - start)) x start end
-        (λ j l. reverseIndex-lt (end - start) size-pos j)
-    ∙ permuteField-id (λ j. reverseIndex (end - start) (reverseIndex (end - start) j)) x start end
-        (reverseIndex-involutive (end - start) size-pos)
+      permuteField-compose (reverseIndex (end - start)) (reverseIndex (end - start)) x start end
+      (λ j l. reverseIndex-lt (end - start) size-pos j)
+      ∙ permuteField-id (λ j. reverseIndex (end - start) (reverseIndex (end - start) j)) x start end
+      (reverseIndex-involutive (end - start) size-pos)
 
   -- reversing a rotated field is rotating the reversed field the other way
   pub reverse-rotate : (x : ℤ) (c : ℤ)
       → reverseBitField (rotateBitField x start end c) start end ≡ rotateBitField (reverseBitField x start end) start end (negℤ c)
   unfolding rotateBitField reverseBitField
   reverse-rotate x c =
-    permuteField-compose (rotateIndex (end - start) c) (reverseIndex (end - start)) x start end
-        (λ j l. reverseIndex-lt (end - start) size-pos j)
-    ∙ permuteField-ext (λ j. rotateIndex (end - start) c (reverseIndex (end - start) j))
-        (λ j. reverseIndex (end - start) (rotateIndex (end - start) (negℤ c) j)) x start end
-        (reverseIndex-rotateIndex (end - start) size-pos c)
-    ∙ sym (permuteField-compose (reverseIndex (end - start)) (rotateIndex (end - start) (negℤ c)) x start end
-        (λ j l. rotateIndex-lt (end - start) size-pos (negℤ c) j))
+      permuteField-compose (rotateIndex (end - start) c) (reverseIndex (end - start)) x start end
+      (λ j l. reverseIndex-lt (end - start) size-pos j)
+      ∙ permuteField-ext (λ j. rotateIndex (end - start) c (reverseIndex (end - start) j))
+      (λ j. reverseIndex (end - start) (rotateIndex (end - start) (negℤ c) j)) x start end
+      (reverseIndex-rotateIndex (end - start) size-pos c)
+      ∙ sym (permuteField-compose (reverseIndex (end - start)) (rotateIndex (end - start) (negℤ c)) x start end
+      (λ j l. rotateIndex-lt (end - start) size-pos (negℤ c) j))
 
   -- 01's step of the net count at a reversal
   pub rotate-opposite : (x : ℤ) (c : ℤ) → rotateBitField x start end («mod» (pos (end - start) -ℤ c) (pos (end - start))) ≡ rotateBitField x start end (negℤ c)
   unfolding rotateBitField
   rotate-opposite x c =
-    rotate-mod x (pos (end - start) -ℤ c)
-    ∙ permuteField-ext (rotateIndex (end - start) (pos (end - start) -ℤ c)) (rotateIndex (end - start) (negℤ c)) x start end
-        (λ j l. rotateIndex-period (end - start) size-pos (negℤ c) j)
+      rotate-mod x (pos (end - start) -ℤ c)
+      ∙ permuteField-ext (rotateIndex (end - start) (pos (end - start) -ℤ c)) (rotateIndex (end - start) (negℤ c)) x start end
+      (λ j l. rotateIndex-period (end - start) size-pos (negℤ c) j)

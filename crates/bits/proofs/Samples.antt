@@ -1,5 +1,6 @@
 -- R6RS gives a sample computation with most of its bitwise procedures: each is equal to our definition. Assumes nothing.
--- Each sample stands above its transcription, which keeps its names; positions and counts are natural numbers.
+-- A sample's transcription keeps its names (mask, field1, ..); positions and counts are natural numbers. 000 has the same
+-- computations over fixnums: where they stay in range, these laws speak of them too.
 use mathlib.Core.Path.{_≡_, refl, sym, _∙_, ap, ap₂}
 use mathlib.Core.Bool.{Bool, true, false, not, cond, _&&_, _||_, true≢false}
 use Prim.Native.Nat.{ℕ, zero, suc, _+_, _-_, _/_, _%_, _^_, _≤_, _<_}
@@ -26,6 +27,7 @@ use Rattle.bits.specs.Field.{
   reverseBitField,
 }
 use Rattle.bits.specs.Count.{bitCount, firstTrue, firstBitSet}
+use Rattle.bits.proofs.Booleans.{all₁, all₂}
 use Rattle.bits.proofs.TestbitLaws.{
   by-lt,
   testbit-ext,
@@ -34,6 +36,7 @@ use Rattle.bits.proofs.TestbitLaws.{
   halvings-suc,
   testbit-shiftRight,
 }
+use Rattle.bits.proofs.Algebra as Algebra
 use Rattle.bits.proofs.LogicalLaws.{not-not, testbit-not, testbit-and, testbit-ior, testbit-if}
 use Rattle.bits.proofs.FieldLaws.{by-field, testbit-bitField, testbit-copyBitField, testbit-copyBit, testbit-rotateBitField}
 use Rattle.bits.proofs.ShiftLaws.{
@@ -46,20 +49,14 @@ use Rattle.bits.proofs.ShiftLaws.{
 }
 use Rattle.bits.proofs.ModLaws.{subℕ-ge, modℕ-period, modℕ-sub-r}
 
--- (zero? ei)
 abbrev isZero : ℤ → Bool
 isZero (pos n) = eqb n 0
 isZero (negsuc n) = false
 
 and-comm : (a b : Bool) → a && b ≡ b && a
-and-comm true true = refl
-and-comm true false = refl
-and-comm false true = refl
-and-comm false false = refl
+and-comm = all₂ (λ a b. a && b) (λ a b. b && a) tt
 
--- ---- bitwise-if
--- (bitwise-ior (bitwise-and ei1 ei2)
---              (bitwise-and (bitwise-not ei1) ei3))
+-- ---- bitwise-if: where x is 1 the bits of y, joined with those of z where x is 0
 abbrev bitwiseIfSample : ℤ → ℤ → ℤ → ℤ
 bitwiseIfSample x y z = bitwiseIor (bitwiseAnd x y) (bitwiseAnd (bitwiseNot x) z)
 
@@ -67,8 +64,7 @@ pub sample-bitwiseIf : (x y z : ℤ) → bitwiseIfSample x y z ≡ bitwiseIf x y
 unfolding bitwiseIf
 sample-bitwiseIf x y z = refl
 
--- ---- bitwise-bit-count: R6RS states it for negative integers, and it holds for all
--- (bitwise-not (bitwise-bit-count (bitwise-not ei)))
+-- ---- bitwise-bit-count: the complement of the count of the complement. R6RS states it for x < 0, and it holds for all x
 abbrev bitCountSample : ℤ → ℤ
 bitCountSample x = bitwiseNot (bitCount (bitwiseNot x))
 
@@ -77,15 +73,8 @@ unfolding bitwiseNot bitCount
 sample-bitCount (pos n) = refl
 sample-bitCount (negsuc n) = refl
 
--- ---- bitwise-length
--- (do ((result 0 (+ result 1))
---      (bits (if (negative? ei)
---                (bitwise-not ei)
---                ei)
---            (bitwise-arithmetic-shift bits -1)))
---     ((zero? bits)
---      result))
--- The first argument bounds the number of rounds; mag ei rounds are enough.
+-- ---- bitwise-length: a loop that shifts x, or not x where x < 0, to the right by 1 until it is 0, and counts the rounds
+-- The first argument bounds the number of rounds: mag x rounds are enough.
 abbrev lengthLoop : ℕ → ℕ → ℤ → ℕ
 lengthLoop zero result bits = result
 lengthLoop (suc bound) result bits = cond (isZero bits) result (lengthLoop bound (result + 1) (arithmeticShift bits (negsuc 0)))
@@ -115,11 +104,7 @@ sample-bitLength x bound h =
     ∙ length-loop bound (mag x) 0 (mag x) h (le-refl (mag x))
     ∙ zero-add (halvings (mag x) (mag x))
 
--- ---- bitwise-bit-set?
--- (not (zero?
---        (bitwise-and
---          (bitwise-arithmetic-shift-left 1 ei2)
---          ei1)))
+-- ---- bitwise-bit-set?: whether x and 1 shifted to k have a bit in common (000 has the two the other way round)
 abbrev testbitSample : ℤ → ℕ → Bool
 testbitSample x k = not (isZero (bitwiseAnd (shiftLeft (pos 1) k) x))
 
@@ -158,11 +143,10 @@ sample-testbit x k = go (testbit x k) refl
         ∙ and-comm (eqb i k) false
         ∙ sym (testbit-zero i)))
 
--- ---- bitwise-copy-bit: of ei3 only bit 0 matters
--- (let* ((mask (bitwise-arithmetic-shift-left 1 ei2)))
---   (bitwise-if mask
---             (bitwise-arithmetic-shift-left ei3 ei2)
---             ei1))
+pub sample-testbit-fx : (x : ℤ) (k : ℕ) → not (isZero (bitwiseAnd x (shiftLeft (pos 1) k))) ≡ testbit x k
+sample-testbit-fx x k = ap (λ (y : ℤ). not (isZero y)) (Algebra.and-comm x (shiftLeft (pos 1) k)) ∙ sample-testbit x k
+
+-- ---- bitwise-copy-bit: an if under a mask with a one at k. Of the new bit y only bit 0 matters
 abbrev copyBitSample : ℤ → ℕ → ℤ → ℤ
 copyBitSample x k y =
     let mask : ℤ = shiftLeft (pos 1) k in
@@ -177,13 +161,7 @@ sample-copyBit x k y = testbit-ext (λ i. testbit-if (shiftLeft (pos 1) k) (shif
     at-k : (i : ℕ) → i ≡ k → testbit (shiftLeft y k) i ≡ testbit y 0
     at-k i e = testbit-shiftLeft-ge y k i (omega arith) ∙ (let z : i - k ≡ 0 = omega arith in ap (testbit y) z)
 
--- ---- bitwise-bit-field
--- (let ((mask
---        (bitwise-not
---         (bitwise-arithmetic-shift-left -1 ei3))))
---   (bitwise-arithmetic-shift-right
---     (bitwise-and ei1 mask)
---     ei2))
+-- ---- bitwise-bit-field: the bits below end, shifted to the right by start
 abbrev bitFieldSample : ℤ → ℕ → ℕ → ℤ
 bitFieldSample x start end =
     let mask : ℤ = bitwiseNot (shiftLeft (negsuc 0) end) in
@@ -204,21 +182,7 @@ sample-bitField x start end = testbit-ext (λ j. testbit-shiftRight (bitwiseAnd 
     below j = by-lt (λ b. b ≡ ltb j (end - start)) (start + j) end (λ h. sym (lt-ltb j (end - start) (omega arith)))
         (λ h. sym (le-ltb j (end - start) (omega arith)))
 
--- ---- bitwise-copy-bit-field
--- (let* ((to    ei1)
---        (start ei2)
---        (end   ei3)
---        (from  ei4)
---        (mask1
---          (bitwise-arithmetic-shift-left -1 start))
---        (mask2
---          (bitwise-not
---            (bitwise-arithmetic-shift-left -1 end)))
---        (mask (bitwise-and mask1 mask2)))
---   (bitwise-if mask
---               (bitwise-arithmetic-shift-left from
---                                              start)
---               to))
+-- ---- bitwise-copy-bit-field: an if under a mask with ones from start up to end
 abbrev copyBitFieldSample : ℤ → ℕ → ℕ → ℤ → ℤ
 copyBitFieldSample to start end from =
     let mask1 : ℤ = shiftLeft (negsuc 0) start in
@@ -245,9 +209,8 @@ sample-copyBitField to start end from = testbit-ext (λ i.
     start end i (λ h l. testbit-shiftLeft-ge from start i h) (λ o. refl)
     ∙ sym (testbit-copyBitField to start end from i))
 
--- ---- bitwise-arithmetic-shift
--- (floor (* ei1 (expt 2 ei2)))
--- (expt 2 ei2) is a fraction, and floorDiv x m is the floor of x / m: x is floorDiv x m * m and a remainder from 0 to m - 1 (ModLaws).
+-- ---- bitwise-arithmetic-shift: the floor of x times 2^d
+-- 2^d is a fraction, and floorDiv x m is the floor of x / m (DivisionLaws).
 -- What R6RS says of the left and the right shift is arithmeticShift-left and arithmeticShift-right (ShiftLaws).
 abbrev exptNumerator : ℤ → ℕ
 exptNumerator (pos k) = 2 ^ k
@@ -265,24 +228,7 @@ unfolding arithmeticShift shiftLeft shiftRight
 sample-arithmeticShift x (pos k) = shiftRight-zero (shiftLeft x k)
 sample-arithmeticShift x (negsuc k) = ap (λ (y : ℤ). floorDiv y (2 ^ suc k)) (shiftLeft-zero x)
 
--- ---- bitwise-rotate-bit-field
--- (let* ((n     ei1)
---        (start ei2)
---        (end   ei3)
---        (count ei4)
---        (width (- end start)))
---   (if (positive? width)
---       (let* ((count (mod count width))
---              (field0
---                (bitwise-bit-field n start end))
---              (field1 (bitwise-arithmetic-shift-left
---                        field0 count))
---              (field2 (bitwise-arithmetic-shift-right
---                        field0
---                        (- width count)))
---              (field (bitwise-ior field1 field2)))
---         (bitwise-copy-bit-field n start end field))
---       n))
+-- ---- bitwise-rotate-bit-field: the field shifted up by count mod width, joined with what that pushes out of it
 abbrev rotateBitFieldSample : ℤ → ℕ → ℕ → ℕ → ℤ
 rotateBitFieldSample n start end count =
     let width : ℕ = end - start in
@@ -337,30 +283,74 @@ rotated f y m bits c j h l =
     outside i k = bits i ∙ ap (λ (b : Bool). b && f i) (le-ltb i m k)
 
     or-false : (b : Bool) → b || false ≡ b
-    or-false true = refl
-    or-false false = refl
+    or-false = all₁ (λ b. b || false) (λ b. b) tt
+
+-- a field whose bits are those of n's field moved up by count
+rotated-field : (n : ℤ) (start end count : ℕ) (field : ℤ) → 0 < end - start
+    → ((j : ℕ) → j < end - start → testbit field j ≡ testbit n (start + (j + (end - start - count % (end - start))) % (end - start)))
+    → copyBitField n start end field ≡ rotateBitField n start end (pos count)
+rotated-field n start end count field h bits = testbit-ext (λ i. testbit-copyBitField n start end field i
+    ∙ by-field (λ b. cond b (testbit field (i - start)) (testbit n i) ≡ cond b (testbit n (source i)) (testbit n i)) start end i
+    (λ l u. bits (i - start) (omega arith) ∙ ap (λ (k : ℕ). testbit n (start + k)) (sym (rotateIndex-nat (i - start) count (end - start) h)))
+    (λ o. refl)
+    ∙ sym (testbit-rotateBitField n start end (pos count) i))
+  where
+    source : ℕ → ℕ
+    source i = start + modℕ (pos (i - start) -ℤ pos count) (end - start)
+
+rotate-empty : (n : ℤ) (start end : ℕ) (c : ℤ) → end ≤ start → rotateBitField n start end c ≡ n
+rotate-empty n start end c h = testbit-ext (λ i. testbit-rotateBitField n start end c i
+    ∙ by-field (λ b. cond b (testbit n (start + modℕ (pos (i - start) -ℤ c) (end - start))) (testbit n i) ≡ testbit n i) start end i
+    (λ l u. absurd (omega arith)) (λ o. refl))
 
 pub sample-rotateBitField : (n : ℤ) (start end count : ℕ) → rotateBitFieldSample n start end count ≡ rotateBitField n start end (pos count)
 unfolding modℕ
 sample-rotateBitField n start end count =
     by-lt (λ b. cond b (copyBitField n start end field) n ≡ rotateBitField n start end (pos count)) 0 (end - start)
-    (λ h. testbit-ext (λ i. testbit-copyBitField n start end field i
-    ∙ by-field (λ b. cond b (testbit field (i - start)) (testbit n i) ≡ cond b (testbit n (source i)) (testbit n i)) start end i
-    (λ l u. rotated (λ k. testbit n (start + k)) (bitField n start end) (end - start) (testbit-bitField n start end)
-    (count % (end - start)) (i - start) (mod-lt count h) (omega arith)
-    ∙ ap (λ (k : ℕ). testbit n (start + k)) (sym (rotateIndex-nat (i - start) count (end - start) h)))
-    (λ o. refl)
-    ∙ sym (testbit-rotateBitField n start end (pos count) i)))
-    (λ h. testbit-ext (λ i. sym (testbit-rotateBitField n start end (pos count) i
-    ∙ by-field (λ b. cond b (testbit n (source i)) (testbit n i) ≡ testbit n i) start end i (λ l u. absurd (omega arith)) (λ o. refl))))
+    (λ h. rotated-field n start end count field h (λ j l.
+    rotated (λ k. testbit n (start + k)) (bitField n start end) (end - start) (testbit-bitField n start end)
+    (count % (end - start)) j (mod-lt count h) l))
+    (λ h. sym (rotate-empty n start end (pos count) (omega arith)))
   where
     field : ℤ
     field =
         bitwiseIor (shiftLeft (bitField n start end) (count % (end - start)))
         (shiftRight (bitField n start end) (end - start - count % (end - start)))
 
-    source : ℕ → ℕ
-    source i = start + modℕ (pos (i - start) -ℤ pos count) (end - start)
+-- ---- fxrotate-bit-field, as 003 computes it: the bits that the shift would push out are left out before, so that nothing overflows
+abbrev fxRotateBitFieldSample : ℤ → ℕ → ℕ → ℕ → ℤ
+fxRotateBitFieldSample n start end count =
+    let width : ℕ = end - start in
+    copyBitField n start end
+    (bitwiseIor (shiftLeft (bitField n start (end - count)) count) (shiftRight (bitField n start end) (width - count)))
+
+-- shifted up by count, both fields have the same bits below the width
+shorter-field : (n : ℤ) (start end count j : ℕ) → j < end - start
+    → testbit (shiftLeft (bitField n start (end - count)) count) j ≡ testbit (shiftLeft (bitField n start end) count) j
+shorter-field n start end count j l =
+    testbit-shiftLeft (bitField n start (end - count)) count j
+    ∙ by-lt (λ b. not b && testbit (bitField n start (end - count)) (j - count) ≡ not b && testbit (bitField n start end) (j - count)) j count
+    (λ h. refl)
+    (λ h. in-field (end - count) (omega arith) ∙ sym (in-field end (omega arith)))
+    ∙ sym (testbit-shiftLeft (bitField n start end) count j)
+  where
+    in-field : (e : ℕ) → j - count < e - start → testbit (bitField n start e) (j - count) ≡ testbit n (start + (j - count))
+    in-field e h = testbit-bitField n start e (j - count) ∙ ap (λ (b : Bool). b && testbit n (start + (j - count))) (lt-ltb (j - count) (e - start) h)
+
+pub sample-fxRotateBitField : (n : ℤ) (start end count : ℕ) → count < end - start
+    → fxRotateBitFieldSample n start end count ≡ rotateBitField n start end (pos count)
+sample-fxRotateBitField n start end count h =
+    rotated-field n start end count
+    (bitwiseIor (shiftLeft (bitField n start (end - count)) count) (shiftRight (bitField n start end) (end - start - count)))
+    (omega arith)
+    (λ j l. testbit-ior (shiftLeft (bitField n start (end - count)) count) low j
+    ∙ ap (λ (b : Bool). b || testbit low j) (shorter-field n start end count j l)
+    ∙ sym (testbit-ior (shiftLeft (bitField n start end) count) low j)
+    ∙ rotated (λ k. testbit n (start + k)) (bitField n start end) (end - start) (testbit-bitField n start end) count j h l
+    ∙ ap (λ (c : ℕ). testbit n (start + (j + (end - start - c)) % (end - start))) (sym (mod-eq-of-lt h)))
+  where
+    low : ℤ
+    low = shiftRight (bitField n start end) (end - start - count)
 
 -- ---- the examples
 -- negsuc n is -(n + 1)

@@ -23,6 +23,7 @@ use borrow.Author.Tests.{le-ltb}
 use Rattle.bits.specs.Testbit.{isNegative, testbit, bitLength, fill, consBit, ofBits}
 use Rattle.bits.specs.Logical.{bitwiseNot, bitwise, bitwiseAnd}
 use Rattle.bits.specs.Shift.{floorDiv, shiftLeft, shiftRight, arithmeticShift}
+use Rattle.bits.proofs.Booleans.{all₁}
 use Rattle.bits.proofs.TestbitLaws.{
   by-lt,
   testbit-ext,
@@ -127,8 +128,7 @@ testbit-shiftLeft-ones k i =
     ∙ and-true (not (ltb i k))
   where
     and-true : (b : Bool) → b && true ≡ b
-    and-true true = refl
-    and-true false = refl
+    and-true = all₁ (λ b. b && true) (λ b. b) tt
 
 -- ---- the one shift and the two
 
