@@ -3,3 +3,4 @@ pub mod TestbitLaws
 pub mod LogicalLaws
 pub mod FieldLaws
 pub mod ModLaws
+pub mod DivisionLaws
