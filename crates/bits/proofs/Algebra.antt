@@ -3,24 +3,11 @@
 -- truth tables of its two sides. Assumes nothing.
 use mathlib.Core.Path.{_≡_, refl, sym, _∙_, ap, ap₂}
 use mathlib.Core.Bool.{Bool, true, false, not, _&&_, _||_, xor}
-use mathlib.Core.List.{List, [], _∷_, _++_, map}
 use Prim.Native.Nat.{ℕ}
 use lib.Dec.{T}
 use lib.IntN.{ℤ, pos, negsuc}
 use Rattle.bits.specs.Testbit.{testbit, fill}
-use Rattle.bits.specs.Logical.{
-  bitwiseNot,
-  bitwise,
-  bitwiseAnd,
-  bitwiseIor,
-  bitwiseXor,
-  bitwiseFrom,
-  bitwiseAll,
-  bitwiseAnds,
-  bitwiseIors,
-  bitwiseXors,
-  bitwiseIf,
-}
+use Rattle.bits.specs.Logical.{bitwiseNot, bitwise, bitwiseAnd, bitwiseIor, bitwiseXor, bitwiseIf}
 use Rattle.bits.proofs.Booleans.{agree₃, all₃}
 use Rattle.bits.proofs.TestbitLaws.{testbit-ext, testbit-fill}
 use Rattle.bits.proofs.LogicalLaws.{testbit-not, testbit-bitwise}

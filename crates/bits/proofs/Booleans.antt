@@ -1,6 +1,6 @@
 -- Boolean identities, proved by computing both sides at every value. Assumes nothing.
 --   all₁ f g tt  :  f a ≡ g a for each a, where antt computes that they agree; all₂ and all₃ for two and three arguments
-use mathlib.Core.Path.{_≡_, refl, ap}
+use mathlib.Core.Path.{_≡_, refl}
 use mathlib.Core.Bool.{Bool, true, false, _&&_, Bool·beq}
 use lib.Dec.{T}
 

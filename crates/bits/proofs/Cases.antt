@@ -1,6 +1,6 @@
 -- The cases M1 to M6 and M10 of document 01, computed from the definitions. Assumes nothing.
 use mathlib.Core.Path.{_≡_, refl}
-use lib.IntN.{ℤ, pos, negsuc}
+use lib.IntN.{pos, negsuc}
 use Rattle.bits.specs.Testbit.{odd, isNegative, testbit, halvings, bitLength, fill, consBit, ofBits}
 use Rattle.bits.specs.Logical.{bitwiseNot}
 use Rattle.bits.specs.Shift.{floorDiv, shiftLeft, shiftRight, arithmeticShift}

@@ -1,7 +1,7 @@
 -- The algebra of fields: get and put, distribution over the logical operations, permutations of a field composed. Assumes nothing.
 use mathlib.Core.Path.{_≡_, refl, sym, _∙_, ap, ap₂}
 use mathlib.Core.Bool.{Bool, true, false, not, cond, _&&_}
-use Prim.Native.Nat.{ℕ, _+_, _-_, _≤_, _<_}
+use Prim.Native.Nat.{ℕ, _+_, _-_, _<_}
 use native.Mathlib.Omega.{arith}
 use lib.Dec.{ltb}
 use lib.IntN.{ℤ}
@@ -11,14 +11,7 @@ use Rattle.bits.specs.Logical.{bitwiseNot, bitwise}
 use Rattle.bits.specs.Field.{inField, bitField, setField, copyBitField, permuteField}
 use Rattle.bits.proofs.TestbitLaws.{by-lt, testbit-ext, testbit-fill}
 use Rattle.bits.proofs.LogicalLaws.{testbit-not, testbit-bitwise}
-use Rattle.bits.proofs.FieldLaws.{
-  by-field,
-  testbit-setField,
-  testbit-setField-in,
-  testbit-setField-out,
-  testbit-bitField,
-  testbit-copyBitField,
-}
+use Rattle.bits.proofs.FieldLaws.{by-field, testbit-setField, testbit-setField-in, testbit-setField-out, testbit-bitField}
 
 -- ---- fields replaced: only the new bits inside the field count
 

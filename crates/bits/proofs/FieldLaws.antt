@@ -1,13 +1,13 @@
 -- Laws of fields: the bits of each operation. Assumes nothing.
 use mathlib.Core.Path.{_≡_, refl, sym, _∙_, ap, ap₂, subst}
 use mathlib.Core.Bool.{Bool, true, false, cond, _&&_, true≢false}
-use Prim.Native.Nat.{ℕ, zero, suc, _+_, _-_, _≤_, _<_}
+use Prim.Native.Nat.{ℕ, suc, _+_, _-_, _≤_, _<_}
 use native.Mathlib.Nat.{add-sub-cancel-left}
 use native.Mathlib.Omega.{arith}
 use lib.Dec.{ltb, leb, eqb}
-use lib.IntN.{ℤ, pos, negsuc, _-ℤ_}
+use lib.IntN.{ℤ, pos, _-ℤ_}
 use borrow.Author.Tests.{leb-true, ltb-true, le-leb, lt-leb, lt-ltb, le-ltb, eq-eqb, ne-eqb}
-use Rattle.bits.specs.Testbit.{isNegative, testbit, fill, ofBits}
+use Rattle.bits.specs.Testbit.{isNegative, testbit}
 use Rattle.bits.specs.Shift.{shiftRight}
 use Rattle.bits.specs.Division.{modℕ}
 use Rattle.bits.specs.Field.{
@@ -23,15 +23,7 @@ use Rattle.bits.specs.Field.{
   reverseBitField,
 }
 use Rattle.bits.proofs.Booleans.{all₁}
-use Rattle.bits.proofs.TestbitLaws.{
-  by-lt,
-  testbit-ext,
-  testbit-zero,
-  testbit-ofBits,
-  testbit-ofBits-shiftRight,
-  isNegative-ofBits,
-  isNegative-shiftRight,
-}
+use Rattle.bits.proofs.TestbitLaws.{testbit-zero, testbit-ofBits, testbit-ofBits-shiftRight, isNegative-ofBits, isNegative-shiftRight}
 
 -- ---- positions
 

@@ -1,5 +1,6 @@
 -- Laws, from the bits of an integer up to lists of calls. docs/THEOREMS.md lists them by requirement.
 pub mod Booleans
+pub mod IntegerLaws
 pub mod TestbitLaws
 pub mod LengthLaws
 pub mod LogicalLaws
@@ -7,6 +8,7 @@ pub mod Algebra
 pub mod ArgumentLaws
 pub mod ShiftLaws
 pub mod ModLaws
+pub mod DivisionLaws
 pub mod FieldLaws
 pub mod FieldAlgebra
 pub mod RotateLaws

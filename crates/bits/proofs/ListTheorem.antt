@@ -1,17 +1,17 @@
 -- Demand 3 on the integers: what every list of rotate and reverse calls on one field does, for any rule `done` that says which
 -- calls are done. `list-theorem` is the one statement about whole lists; each part of the library applies it with its own rule.
 -- Assumes nothing.
-use mathlib.Core.Path.{_≡_, refl, sym, _∙_, ap, ap₂, subst}
+use mathlib.Core.Path.{_≡_, refl, sym, _∙_, ap, ap₂}
 use mathlib.Core.Logic.{_≢_}
-use mathlib.Core.Bool.{Bool, true, false, not, cond, _&&_, xor, true≢false}
+use mathlib.Core.Bool.{Bool, true, false, cond, _&&_, xor, true≢false}
 use mathlib.Core.List.{List, [], _∷_, map}
-use Prim.Native.Nat.{ℕ, zero, suc, _+_, _-_, _/_, _%_, _^_, _≤_, _<_}
+use Prim.Native.Nat.{ℕ, zero, suc, _+_, _-_, _/_, _^_, _<_}
 use native.Mathlib.Nat.{add-zero, div-self, div-eq-of-lt, add-sub-cancel-left}
 use native.Mathlib.Omega.{arith}
-use lib.Dec.{T, eqb, le→leb, lt→ltb}
+use lib.Dec.{lt→ltb}
 use lib.Pow.{pow-pos, pow-lt}
-use lib.IntN.{ℤ, pos, negsuc, negℤ, _+ℤ_, _-ℤ_, +ℤ-idl, +ℤ-invr, +ℤ-invl}
-use lib.Signed.{_≤ℤ_, _<ℤ_}
+use lib.IntN.{ℤ, pos, negℤ, natAbs, _+ℤ_, _-ℤ_, +ℤ-invr, +ℤ-invl}
+use lib.Signed.{_≤ℤ_, _<ℤ_, leZ-yes, ltZ-yes}
 use Rattle.bits.specs.Testbit.{odd, isNegative, testbit, fill}
 use Rattle.bits.specs.Logical.{bitwiseNot, bitwise, bitwiseAll}
 use Rattle.bits.specs.Division.{modℕ, «mod»}
@@ -31,7 +31,8 @@ use Rattle.bits.specs.FieldList.{
 }
 use Rattle.bits.proofs.Booleans.{all₁, all₃}
 use Rattle.bits.proofs.ArgumentLaws.{all-map}
-use Rattle.bits.proofs.ModLaws.{modℕ-lt, modℕ-self, modℕ-inj}
+use Rattle.bits.proofs.ModLaws.{modℕ-self, modℕ-inj}
+use Rattle.bits.proofs.DivisionLaws.{mod-bounds}
 use Rattle.bits.proofs.FieldLaws.{inField-true, testbit-setField-out, testbit-rotateBitField, isNegative-permuteField}
 use Rattle.bits.proofs.FieldAlgebra.{permuteField-not, permuteField-bitwise, permuteField-fill}
 use Rattle.bits.proofs.RotateLaws.{
@@ -234,19 +235,16 @@ module _ (start end : ℕ) (h : start < end) where
 
 -- ---- the net count stays below the size
 
-record Below (size : ℕ) (s : ℤ) : Type 0 where
-  low : pos 0 ≤ℤ s
-  high : s <ℤ pos size
+Below : ℕ → ℤ → Type 0
+Below size s = (pos 0 ≤ℤ s) × (s <ℤ pos size)
 
 below-mod : (size : ℕ) → 0 < size → (x : ℤ) → Below size («mod» x (pos size))
-unfolding «mod»
-below-mod size h x = record {
-  low = record { le = le→leb 0 (modℕ x size) (omega arith) };
-  high = record { lt = lt→ltb (modℕ x size) size (modℕ-lt x size h) };
-}
+unfolding Below
+below-mod size h x = mod-bounds x (pos size) (λ e. omega (arith, ap natAbs e))
 
 below-zero : (size : ℕ) → 0 < size → Below size (pos 0)
-below-zero size h = record { low = record { le = tt }; high = record { lt = lt→ltb 0 size h } }
+unfolding Below
+below-zero size h = (leZ-yes tt, ltZ-yes (lt→ltb 0 size h))
 
 below-call : (size : ℕ) → 0 < size → (call : FieldCall) (s : ℤ) → Below size (countCall size call s)
 unfolding countCall
@@ -304,10 +302,10 @@ module _ (start end : ℕ) (h : start < end) where
 -- ---- the theorem
 
 pub list-theorem : (done : FieldCall → Bool) (start end : ℕ) → start < end → ListLaw done start end
-unfolding settled netCount
+unfolding settled netCount Below
 list-theorem done start end h = record {
   end-number = end-is start end h done;
-  net-count = λ calls. let k = below-from done (end - start) (omega arith) calls (pos 0) (below-zero (end - start) (omega arith)) in (k .low, k .high);
+  net-count = λ calls. below-from done (end - start) (omega arith) calls (pos 0) (below-zero (end - start) (omega arith));
   bit-count = keeps done start end bitCount (call-bitCount start end);
   sign = keeps done start end isNegative (call-sign start end);
   outside = λ calls x i o. keeps done start end (λ (y : ℤ). testbit y i) (call-outside start end i o) calls x;

@@ -1,22 +1,13 @@
 -- Laws of the logical operations: their bits, and the algebra that follows bit by bit. Assumes nothing.
 use mathlib.Core.Path.{_≡_, refl, sym, _∙_, ap, ap₂}
 use mathlib.Core.Bool.{Bool, true, false, not, cond, _&&_, _||_, xor}
-use Prim.Native.Nat.{ℕ, _-_, _/_, _^_, _≤_, _<_, max}
+use Prim.Native.Nat.{ℕ, _-_, _/_, _^_, max}
 use native.Mathlib.Omega.{arith}
-use lib.Dec.{ltb}
 use lib.IntN.{ℤ, pos, negsuc}
-use Rattle.bits.specs.Testbit.{odd, isNegative, testbit, bitLength, fill, ofBits}
-use Rattle.bits.specs.Logical.{bitwiseNot, bitwise, bitwiseAnd, bitwiseIor, bitwiseXor, bitwiseFrom, bitwiseAll, bitwiseAnds, bitwiseIors, bitwiseXors, bitwiseIf}
+use Rattle.bits.specs.Testbit.{odd, isNegative, testbit, bitLength, fill}
+use Rattle.bits.specs.Logical.{bitwiseNot, bitwise, bitwiseAnd, bitwiseIor, bitwiseXor, bitwiseIf}
 use Rattle.bits.proofs.Booleans.{all₁}
-use Rattle.bits.proofs.TestbitLaws.{
-  by-lt,
-  testbit-ext,
-  testbit-above,
-  testbit-fill,
-  testbit-ofBits,
-  isNegative-fill,
-  isNegative-ofBits,
-}
+use Rattle.bits.proofs.TestbitLaws.{by-lt, testbit-above, testbit-fill, testbit-ofBits, isNegative-fill, isNegative-ofBits}
 
 -- ---- bits
 

@@ -1,74 +1,16 @@
 -- Laws of the division of an integer by a natural number m > 0: floorDiv is the quotient and modℕ the remainder. Assumes nothing.
 use mathlib.Core.Path.{_≡_, refl, sym, _∙_, ap}
-use mathlib.Core.Bool.{Bool, cond}
-use Prim.Native.Nat.{ℕ, zero, suc, _+_, _*_, _-_, _/_, _%_, _≤_, _<_}
+use Prim.Native.Nat.{ℕ, zero, suc, _+_, _*_, _-_, _/_, _%_, _<_}
 use native.Mathlib.Nat.{div-add-mod', mod-lt, mod-eq-of-lt, zero-mod}
 use native.Mathlib.Omega.{arith}
 use lib.Arith.{comp-comp, digits-div, digits-mod}
-use lib.IntN.{
-  ℤ,
-  pos,
-  negsuc,
-  sucℤ,
-  predℤ,
-  negℤ,
-  subℕ,
-  _+ℤ_,
-  _-ℤ_,
-  _*ℤ_,
-  +ℤ-idl,
-  +ℤ-idr,
-  +ℤ-assoc,
-  +ℤ-comm,
-  +ℤ-invr,
-  -ℤ-+ℤ-cancel,
-  negℤ-+ℤ,
-  sucℤ-+ℤ,
-  predℤ-+ℤ,
-  zero-*ℤ,
-  sucℤ-*ℤ,
-  predℤ-*ℤ,
-}
-use borrow.Author.Tests.{lt-ltb, le-ltb}
+use lib.IntN.{ℤ, pos, negsuc, predℤ, negℤ, _+ℤ_, _-ℤ_, _*ℤ_, +ℤ-idl, +ℤ-idr, +ℤ-comm, +ℤ-invr, -ℤ-+ℤ-cancel, negℤ-+ℤ, predℤ-+ℤ}
 use Rattle.bits.specs.Logical.{bitwiseNot}
 use Rattle.bits.specs.Shift.{floorDiv}
 use Rattle.bits.specs.Division.{modℕ}
+use Rattle.bits.proofs.IntegerLaws.{+ℤ-swap, *ℤ-distrib-+ℤ, subℕ-lt}
 
--- ---- sums and products of integers
-
--- every integer is reached from 0 by steps up and down
-pub ℤ-step : (P : ℤ → Type 0) → P (pos 0) → ((k : ℤ) → P k → P (sucℤ k)) → ((k : ℤ) → P k → P (predℤ k)) → (k : ℤ) → P k
-ℤ-step P z up down (pos zero) = z
-ℤ-step P z up down (pos (suc n)) = up (pos n) (ℤ-step P z up down (pos n))
-ℤ-step P z up down (negsuc zero) = down (pos zero) z
-ℤ-step P z up down (negsuc (suc n)) = down (negsuc n) (ℤ-step P z up down (negsuc n))
-
-pub +ℤ-swap : (a b c : ℤ) → a +ℤ b +ℤ c ≡ a +ℤ c +ℤ b
-+ℤ-swap a b c = +ℤ-assoc a b c ∙ ap (λ (k : ℤ). a +ℤ k) (+ℤ-comm b c) ∙ sym (+ℤ-assoc a c b)
-
-pub *ℤ-distrib-+ℤ : (a b c : ℤ) → (a +ℤ b) *ℤ c ≡ a *ℤ c +ℤ b *ℤ c
-*ℤ-distrib-+ℤ a b c =
-    ℤ-step (λ a. (a +ℤ b) *ℤ c ≡ a *ℤ c +ℤ b *ℤ c)
-    (ap times (+ℤ-idl b) ∙ sym (+ℤ-idl (b *ℤ c)) ∙ ap plus (sym (zero-*ℤ c)))
-    (λ a e. ap times (sucℤ-+ℤ a b) ∙ sucℤ-*ℤ (a +ℤ b) c ∙ move a c e ∙ ap plus (sym (sucℤ-*ℤ a c)))
-    (λ a e. ap times (predℤ-+ℤ a b) ∙ predℤ-*ℤ (a +ℤ b) c ∙ move a (negℤ c) e ∙ ap plus (sym (predℤ-*ℤ a c)))
-    a
-  where
-    times : ℤ → ℤ
-    times k = k *ℤ c
-
-    plus : ℤ → ℤ
-    plus k = k +ℤ b *ℤ c
-
-    move : (a d : ℤ) → (a +ℤ b) *ℤ c ≡ a *ℤ c +ℤ b *ℤ c → (a +ℤ b) *ℤ c +ℤ d ≡ a *ℤ c +ℤ d +ℤ b *ℤ c
-    move a d e = ap (λ (k : ℤ). k +ℤ d) e ∙ +ℤ-swap (a *ℤ c) (b *ℤ c) d
-
--- the difference of two naturals, by its sign
-pub subℕ-lt : (a b : ℕ) → a < b → subℕ a b ≡ negsuc (b - suc a)
-subℕ-lt a b h = ap (λ (t : Bool). cond t (negsuc (b - suc a)) (pos (a - b))) (lt-ltb a b h)
-
-pub subℕ-ge : (a b : ℕ) → b ≤ a → subℕ a b ≡ pos (a - b)
-subℕ-ge a b h = ap (λ (t : Bool). cond t (negsuc (b - suc a)) (pos (a - b))) (le-ltb a b h)
+-- ---- not, as a difference
 
 -- bitwiseNot x is -1 - x
 pub not-pred : (x : ℤ) → bitwiseNot x ≡ predℤ (negℤ x)

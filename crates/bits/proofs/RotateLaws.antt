@@ -1,14 +1,13 @@
 -- Rotations and reversals of one field, composed. Each is a permutation of the field, so these are facts about index maps.
 -- Assumes nothing.
-use mathlib.Core.Path.{_≡_, refl, sym, _∙_, ap}
-use Prim.Native.Nat.{ℕ, suc, _-_, _%_, _≤_, _<_}
-use native.Mathlib.Nat.{mod-eq-of-lt}
+use mathlib.Core.Path.{_≡_, sym, _∙_, ap}
+use Prim.Native.Nat.{ℕ, suc, _-_, _<_}
 use native.Mathlib.Omega.{arith}
 use lib.IntN.{ℤ, pos, negsuc, negℤ, _+ℤ_, _-ℤ_, +ℤ-idr, +ℤ-assoc, +ℤ-comm, negℤ-+ℤ, negℤ-negℤ}
 use Rattle.bits.specs.Logical.{bitwiseNot}
 use Rattle.bits.specs.Division.{modℕ, «mod»}
-use Rattle.bits.specs.Field.{permuteField, rotateIndex, reverseIndex, rotateBitField, reverseBitField}
-use Rattle.bits.proofs.ModLaws.{modℕ-lt, modℕ-small, modℕ-period, modℕ-sub-l, modℕ-sub-r, modℕ-not, modℕ-self, not-add}
+use Rattle.bits.specs.Field.{rotateIndex, reverseIndex, rotateBitField, reverseBitField}
+use Rattle.bits.proofs.ModLaws.{modℕ-lt, modℕ-small, modℕ-period, modℕ-sub-l, modℕ-sub-r, modℕ-not, not-add}
 use Rattle.bits.proofs.FieldAlgebra.{permuteField-ext, permuteField-id, permuteField-compose}
 
 -- ---- index maps

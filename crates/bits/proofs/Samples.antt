@@ -47,7 +47,8 @@ use Rattle.bits.proofs.ShiftLaws.{
   testbit-shiftLeft-one,
   testbit-shiftLeft-ones,
 }
-use Rattle.bits.proofs.ModLaws.{subℕ-ge, modℕ-period, modℕ-sub-r}
+use Rattle.bits.proofs.IntegerLaws.{subℕ-ge}
+use Rattle.bits.proofs.ModLaws.{modℕ-period, modℕ-sub-r}
 
 abbrev isZero : ℤ → Bool
 isZero (pos n) = eqb n 0

@@ -6,12 +6,12 @@ use Prim.Native.Nat.{ℕ, zero, suc, _+_, _*_, _-_, _/_, _%_, _^_, _≤_, _<_}
 use native.Mathlib.Nat.{pow-suc, pow-succ', div-div-eq-div-mul, div-one, div-eq-of-lt, le-refl, lt-of-lt-of-le}
 use native.Mathlib.Omega.{arith}
 use lib.Arith.{half-le}
-use lib.Dec.{T, eqb, ltb, eqb·suc-zero}
+use lib.Dec.{eqb, ltb}
 use lib.Pow.{pow-mono, pow-pos, shr-shr}
 use lib.IntN.{ℤ, pos, negsuc}
 use lib.Signed.{mag}
 use borrow.Author.Tests.{ltb-true, ltb-false, eqb-true, eqb-false, ne-eqb}
-use Rattle.bits.specs.Testbit.{odd, isNegative, testbit, halvings, bitLength, fits, fill, consBit, ofBits}
+use Rattle.bits.specs.Testbit.{odd, isNegative, testbit, halvings, bitLength, fill, consBit, ofBits}
 use Rattle.bits.specs.Shift.{floorDiv, shiftRight}
 
 -- ---- one bit at a time

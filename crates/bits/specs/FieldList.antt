@@ -4,7 +4,7 @@
 --   netCount done size calls             ==  01's net count, from 0 to size - 1
 --   oddReversals done calls              ==  whether the done reversals are odd in number
 -- `done` says which calls are done. Each part of the library has its own rule, so it is a parameter.
-use Prim.Native.Nat.{ℕ, _-_}
+use Prim.Native.Nat.{ℕ}
 use mathlib.Core.Bool.{Bool, true, false, cond, _&&_, xor}
 use mathlib.Core.List.{List, [], _∷_}
 use lib.IntN.{ℤ, pos, _+ℤ_, _-ℤ_}
