@@ -14,7 +14,7 @@ use Rattle.bits.proofs.LogicalLaws.{testbit-not, testbit-bitwise}
 
 -- ---- terms, and what they mean on integers and on bits
 
-data Term : Type 0 where
+pub data Term : Type 0 where
   X Y Z : Term
   const : Bool → Term
   ~_ : Term → Term
@@ -22,24 +22,24 @@ data Term : Type 0 where
 
 infix 90 ~_
 infixl 80 _&_
-abbrev _&_ : Term → Term → Term
+abbrev pub _&_ : Term → Term → Term
 s & t = bin _&&_ s t
 
 infixl 70 _⊕_
-abbrev _⊕_ : Term → Term → Term
+abbrev pub _⊕_ : Term → Term → Term
 s ⊕ t = bin xor s t
 
 infixl 60 _∣_
-abbrev _∣_ : Term → Term → Term
+abbrev pub _∣_ : Term → Term → Term
 s ∣ t = bin _||_ s t
 
-abbrev 𝟘 : Term
+abbrev pub 𝟘 : Term
 𝟘 = const false
 
-abbrev 𝟙 : Term
+abbrev pub 𝟙 : Term
 𝟙 = const true
 
-abbrev value : Term → ℤ → ℤ → ℤ → ℤ
+abbrev pub value : Term → ℤ → ℤ → ℤ → ℤ
 value X x y z = x
 value Y x y z = y
 value Z x y z = z
@@ -47,7 +47,7 @@ value (const s) x y z = fill s
 value (~ s) x y z = bitwiseNot (value s x y z)
 value (bin op s t) x y z = bitwise op (value s x y z) (value t x y z)
 
-abbrev truth : Term → Bool → Bool → Bool → Bool
+abbrev pub truth : Term → Bool → Bool → Bool → Bool
 truth X a b c = a
 truth Y a b c = b
 truth Z a b c = c
@@ -55,7 +55,7 @@ truth (const s) a b c = s
 truth (~ s) a b c = not (truth s a b c)
 truth (bin op s t) a b c = op (truth s a b c) (truth t a b c)
 
-testbit-value : (s : Term) (x y z : ℤ) (i : ℕ) → testbit (value s x y z) i ≡ truth s (testbit x i) (testbit y i) (testbit z i)
+pub testbit-value : (s : Term) (x y z : ℤ) (i : ℕ) → testbit (value s x y z) i ≡ truth s (testbit x i) (testbit y i) (testbit z i)
 testbit-value X x y z i = refl
 testbit-value Y x y z i = refl
 testbit-value Z x y z i = refl
@@ -64,22 +64,22 @@ testbit-value (~ s) x y z i = testbit-not (value s x y z) i ∙ ap not (testbit-
 testbit-value (bin op s t) x y z i =
     testbit-bitwise op (value s x y z) (value t x y z) i ∙ ap₂ op (testbit-value s x y z i) (testbit-value t x y z i)
 
-identity : (s t : Term) → T (agree₃ (truth s) (truth t)) → (x y z : ℤ) → value s x y z ≡ value t x y z
+pub identity : (s t : Term) → T (agree₃ (truth s) (truth t)) → (x y z : ℤ) → value s x y z ≡ value t x y z
 identity s t h x y z =
     testbit-ext λ i.
     testbit-value s x y z i ∙ all₃ (truth s) (truth t) h (testbit x i) (testbit y i) (testbit z i) ∙ sym (testbit-value t x y z i)
 
 -- the same, of two integers and of one
-identity₂ : (s t : Term) → T (agree₃ (truth s) (truth t)) → (x y : ℤ) → value s x y x ≡ value t x y x
+pub identity₂ : (s t : Term) → T (agree₃ (truth s) (truth t)) → (x y : ℤ) → value s x y x ≡ value t x y x
 identity₂ s t h x y = identity s t h x y x
 
-identity₁ : (s t : Term) → T (agree₃ (truth s) (truth t)) → (x : ℤ) → value s x x x ≡ value t x x x
+pub identity₁ : (s t : Term) → T (agree₃ (truth s) (truth t)) → (x : ℤ) → value s x x x ≡ value t x x x
 identity₁ s t h x = identity s t h x x x
 
 -- ---- not, and De Morgan
 
 pub not-involutive : (x : ℤ) → bitwiseNot (bitwiseNot x) ≡ x
-not-involutive = identity₁ (~ (~ X)) (X) tt
+not-involutive = identity₁ (~ (~ X)) X tt
 
 pub not-and : (x y : ℤ) → bitwiseNot (bitwiseAnd x y) ≡ bitwiseIor (bitwiseNot x) (bitwiseNot y)
 unfolding bitwiseAnd bitwiseIor
@@ -105,27 +105,27 @@ and-assoc = identity ((X & Y) & Z) (X & (Y & Z)) tt
 
 pub and-self : (x : ℤ) → bitwiseAnd x x ≡ x
 unfolding bitwiseAnd
-and-self = identity₁ (X & X) (X) tt
+and-self = identity₁ (X & X) X tt
 
 pub and-ones-l : (x : ℤ) → bitwiseAnd (negsuc 0) x ≡ x
 unfolding bitwiseAnd fill
-and-ones-l = identity₁ (𝟙 & X) (X) tt
+and-ones-l = identity₁ (𝟙 & X) X tt
 
 pub and-ones-r : (x : ℤ) → bitwiseAnd x (negsuc 0) ≡ x
 unfolding bitwiseAnd fill
-and-ones-r = identity₁ (X & 𝟙) (X) tt
+and-ones-r = identity₁ (X & 𝟙) X tt
 
 pub and-zero-l : (x : ℤ) → bitwiseAnd (pos 0) x ≡ pos 0
 unfolding bitwiseAnd fill
-and-zero-l = identity₁ (𝟘 & X) (𝟘) tt
+and-zero-l = identity₁ (𝟘 & X) 𝟘 tt
 
 pub and-zero-r : (x : ℤ) → bitwiseAnd x (pos 0) ≡ pos 0
 unfolding bitwiseAnd fill
-and-zero-r = identity₁ (X & 𝟘) (𝟘) tt
+and-zero-r = identity₁ (X & 𝟘) 𝟘 tt
 
 pub and-not : (x : ℤ) → bitwiseAnd x (bitwiseNot x) ≡ pos 0
 unfolding bitwiseAnd fill
-and-not = identity₁ (X & ~ X) (𝟘) tt
+and-not = identity₁ (X & ~ X) 𝟘 tt
 
 -- ---- ior
 
@@ -139,27 +139,27 @@ ior-assoc = identity ((X ∣ Y) ∣ Z) (X ∣ (Y ∣ Z)) tt
 
 pub ior-self : (x : ℤ) → bitwiseIor x x ≡ x
 unfolding bitwiseIor
-ior-self = identity₁ (X ∣ X) (X) tt
+ior-self = identity₁ (X ∣ X) X tt
 
 pub ior-zero-l : (x : ℤ) → bitwiseIor (pos 0) x ≡ x
 unfolding bitwiseIor fill
-ior-zero-l = identity₁ (𝟘 ∣ X) (X) tt
+ior-zero-l = identity₁ (𝟘 ∣ X) X tt
 
 pub ior-zero-r : (x : ℤ) → bitwiseIor x (pos 0) ≡ x
 unfolding bitwiseIor fill
-ior-zero-r = identity₁ (X ∣ 𝟘) (X) tt
+ior-zero-r = identity₁ (X ∣ 𝟘) X tt
 
 pub ior-ones-l : (x : ℤ) → bitwiseIor (negsuc 0) x ≡ negsuc 0
 unfolding bitwiseIor fill
-ior-ones-l = identity₁ (𝟙 ∣ X) (𝟙) tt
+ior-ones-l = identity₁ (𝟙 ∣ X) 𝟙 tt
 
 pub ior-ones-r : (x : ℤ) → bitwiseIor x (negsuc 0) ≡ negsuc 0
 unfolding bitwiseIor fill
-ior-ones-r = identity₁ (X ∣ 𝟙) (𝟙) tt
+ior-ones-r = identity₁ (X ∣ 𝟙) 𝟙 tt
 
 pub ior-not : (x : ℤ) → bitwiseIor x (bitwiseNot x) ≡ negsuc 0
 unfolding bitwiseIor fill
-ior-not = identity₁ (X ∣ ~ X) (𝟙) tt
+ior-not = identity₁ (X ∣ ~ X) 𝟙 tt
 
 -- ---- xor
 
@@ -173,15 +173,15 @@ xor-assoc = identity ((X ⊕ Y) ⊕ Z) (X ⊕ (Y ⊕ Z)) tt
 
 pub xor-self : (x : ℤ) → bitwiseXor x x ≡ pos 0
 unfolding bitwiseXor xor fill
-xor-self = identity₁ (X ⊕ X) (𝟘) tt
+xor-self = identity₁ (X ⊕ X) 𝟘 tt
 
 pub xor-zero-l : (x : ℤ) → bitwiseXor (pos 0) x ≡ x
 unfolding bitwiseXor xor fill
-xor-zero-l = identity₁ (𝟘 ⊕ X) (X) tt
+xor-zero-l = identity₁ (𝟘 ⊕ X) X tt
 
 pub xor-zero-r : (x : ℤ) → bitwiseXor x (pos 0) ≡ x
 unfolding bitwiseXor xor fill
-xor-zero-r = identity₁ (X ⊕ 𝟘) (X) tt
+xor-zero-r = identity₁ (X ⊕ 𝟘) X tt
 
 pub xor-ones-l : (x : ℤ) → bitwiseXor (negsuc 0) x ≡ bitwiseNot x
 unfolding bitwiseXor xor fill
@@ -193,7 +193,7 @@ xor-ones-r = identity₁ (X ⊕ 𝟙) (~ X) tt
 
 pub xor-cancel : (x y : ℤ) → bitwiseXor (bitwiseXor x y) y ≡ x
 unfolding bitwiseXor xor
-xor-cancel = identity₂ ((X ⊕ Y) ⊕ Y) (X) tt
+xor-cancel = identity₂ ((X ⊕ Y) ⊕ Y) X tt
 
 -- ---- distribution and absorption
 
@@ -211,11 +211,11 @@ and-distrib-xor = identity (X & (Y ⊕ Z)) (X & Y ⊕ X & Z) tt
 
 pub and-ior-absorb : (x y : ℤ) → bitwiseAnd x (bitwiseIor x y) ≡ x
 unfolding bitwiseAnd bitwiseIor
-and-ior-absorb = identity₂ (X & (X ∣ Y)) (X) tt
+and-ior-absorb = identity₂ (X & (X ∣ Y)) X tt
 
 pub ior-and-absorb : (x y : ℤ) → bitwiseIor x (bitwiseAnd x y) ≡ x
 unfolding bitwiseAnd bitwiseIor
-ior-and-absorb = identity₂ (X ∣ X & Y) (X) tt
+ior-and-absorb = identity₂ (X ∣ X & Y) X tt
 
 pub xor-and-ior : (x y : ℤ) → bitwiseXor x y ≡ bitwiseAnd (bitwiseIor x y) (bitwiseNot (bitwiseAnd x y))
 unfolding bitwiseAnd bitwiseIor bitwiseXor xor
@@ -225,15 +225,15 @@ xor-and-ior = identity₂ (X ⊕ Y) ((X ∣ Y) & ~ (X & Y)) tt
 
 pub if-ones : (x y : ℤ) → bitwiseIf (negsuc 0) x y ≡ x
 unfolding bitwiseIf bitwiseAnd bitwiseIor fill
-if-ones = identity₂ (𝟙 & X ∣ ~ 𝟙 & Y) (X) tt
+if-ones = identity₂ (𝟙 & X ∣ ~ 𝟙 & Y) X tt
 
 pub if-zero : (x y : ℤ) → bitwiseIf (pos 0) x y ≡ y
 unfolding bitwiseIf bitwiseAnd bitwiseIor fill
-if-zero = identity₂ (𝟘 & X ∣ ~ 𝟘 & Y) (Y) tt
+if-zero = identity₂ (𝟘 & X ∣ ~ 𝟘 & Y) Y tt
 
 pub if-self : (x y : ℤ) → bitwiseIf x y y ≡ y
 unfolding bitwiseIf bitwiseAnd bitwiseIor
-if-self = identity₂ (X & Y ∣ ~ X & Y) (Y) tt
+if-self = identity₂ (X & Y ∣ ~ X & Y) Y tt
 
 pub if-not : (x y z : ℤ) → bitwiseIf (bitwiseNot x) y z ≡ bitwiseIf x z y
 unfolding bitwiseIf bitwiseAnd bitwiseIor

@@ -1,14 +1,14 @@
 -- The algebra of fields: get and put, distribution over the logical operations, permutations of a field composed. Assumes nothing.
 use mathlib.Core.Path.{_≡_, refl, sym, _∙_, ap, ap₂}
 use mathlib.Core.Bool.{Bool, true, false, not, cond, _&&_}
-use Prim.Native.Nat.{ℕ, _+_, _-_, _<_}
+use Prim.Native.Nat.{ℕ, suc, _+_, _-_, _<_}
 use native.Mathlib.Omega.{arith}
 use lib.Dec.{ltb}
 use lib.IntN.{ℤ}
 use borrow.Author.Tests.{lt-ltb}
 use Rattle.bits.specs.Testbit.{testbit, fill}
 use Rattle.bits.specs.Logical.{bitwiseNot, bitwise}
-use Rattle.bits.specs.Field.{inField, bitField, setField, copyBitField, permuteField}
+use Rattle.bits.specs.Field.{inField, bitField, setField, copyBitField, copyBit, permuteField}
 use Rattle.bits.proofs.TestbitLaws.{by-lt, testbit-ext, testbit-fill}
 use Rattle.bits.proofs.LogicalLaws.{testbit-not, testbit-bitwise}
 use Rattle.bits.proofs.FieldLaws.{by-field, testbit-setField, testbit-setField-in, testbit-setField-out, testbit-bitField}
@@ -85,6 +85,15 @@ copyBitField-copyBitField x start end y z =
     setField-ext (setField x start end (λ j. testbit y j)) x start end (λ j. testbit z j) (λ j. testbit z j)
     (testbit-setField-out x start end (λ j. testbit y j))
     (λ j h. refl)
+
+-- the same of one bit
+pub copyBit-bitField : (x : ℤ) (k : ℕ) → copyBit x k (bitField x k (suc k)) ≡ x
+unfolding copyBit
+copyBit-bitField x k = copyBitField-bitField x k (suc k)
+
+pub copyBit-copyBit : (x : ℤ) (k : ℕ) (y z : ℤ) → copyBit (copyBit x k y) k z ≡ copyBit x k z
+unfolding copyBit
+copyBit-copyBit x k = copyBitField-copyBitField x k (suc k)
 
 -- ---- distribution over the logical operations
 

@@ -35,19 +35,7 @@ use Rattle.bits.proofs.ModLaws.{modℕ-self, modℕ-inj}
 use Rattle.bits.proofs.DivisionLaws.{mod-bounds}
 use Rattle.bits.proofs.FieldLaws.{inField-true, testbit-setField-out, testbit-rotateBitField, isNegative-permuteField}
 use Rattle.bits.proofs.FieldAlgebra.{permuteField-not, permuteField-bitwise, permuteField-fill}
-use Rattle.bits.proofs.RotateLaws.{
-  rotateIndex-lt,
-  rotateIndex-zero,
-  rotateIndex-compose,
-  reverseIndex-lt,
-  reverseIndex-involutive,
-  rotate-zero,
-  rotate-mod,
-  rotate-compose,
-  rotate-opposite,
-  reverse-involutive,
-  reverse-rotate,
-}
+use Rattle.bits.proofs.RotateLaws.{rotateIndex-lt, rotateIndex-zero, rotateIndex-compose, reverseIndex-lt, reverseIndex-involutive, rotate-zero, rotate-rotate, reverse-rotate-mod, reverse-rotate-reverse}
 use Rattle.bits.proofs.CountLaws.{Permutes, bitCount-permuteField}
 
 -- ---- the statement
@@ -186,25 +174,15 @@ xor-turn : (a b c : Bool) → xor a (xor b c) ≡ xor (xor b a) c
 unfolding xor
 xor-turn = all₃ (λ a b c. xor a (xor b c)) (λ a b c. xor (xor b a) c) tt
 
-module _ (start end : ℕ) (h : start < end) where
-  rotated : (y s c : ℤ) → rotateBitField (rotateBitField y start end s) start end c ≡ rotateBitField y start end («mod» (s +ℤ c) (pos (end - start)))
-  rotated y s c = rotate-compose start end h y s c ∙ sym (rotate-mod start end h y (s +ℤ c))
-
-  reversed : (y s : ℤ)
-      → reverseBitField (rotateBitField y start end s) start end
-      ≡ rotateBitField (reverseBitField y start end) start end («mod» (pos (end - start) -ℤ s) (pos (end - start)))
-  reversed y s = reverse-rotate start end h y s ∙ sym (rotate-opposite start end h (reverseBitField y start end) s)
-
+module _ (start end : ℕ) where
   -- one done call, from a settled form to a settled form
   call-settled : (call : FieldCall) (b : Bool) (s x : ℤ)
       → runCall start end call (settled start end b s x) ≡ settled start end (xor (isReverse call) b) (countCall (end - start) call s) x
   unfolding runCall settled isReverse countCall xor
-  call-settled (rotate c) true s x = rotated (reverseBitField x start end) s c
-  call-settled (rotate c) false s x = rotated x s c
-  call-settled reverse true s x =
-      reversed (reverseBitField x start end) s
-      ∙ ap (λ (y : ℤ). rotateBitField y start end («mod» (pos (end - start) -ℤ s) (pos (end - start)))) (reverse-involutive start end h x)
-  call-settled reverse false s x = reversed x s
+  call-settled (rotate c) true s x = rotate-rotate start end (reverseBitField x start end) s c
+  call-settled (rotate c) false s x = rotate-rotate start end x s c
+  call-settled reverse true s x = reverse-rotate-reverse start end x s
+  call-settled reverse false s x = reverse-rotate-mod start end x s
 
   -- one call, done or not
   step-settled : (t : Bool) (call : FieldCall) (b : Bool) (s x : ℤ)
@@ -229,7 +207,7 @@ module _ (start end : ℕ) (h : start < end) where
       → runCalls done start end calls x ≡ settled start end (oddReversals done calls) (netCount done (end - start) calls) x
   unfolding netCount settled
   end-is done calls x =
-      ap (runCalls done start end calls) (sym (rotate-zero start end h x))
+      ap (runCalls done start end calls) (sym (rotate-zero start end x))
       ∙ calls-settled done calls false (pos 0) x
       ∙ ap (λ (c : Bool). settled start end c (netCountFrom done (end - start) calls (pos 0)) x) (false-xor (oddReversals done calls))
 
@@ -304,7 +282,7 @@ module _ (start end : ℕ) (h : start < end) where
 pub list-theorem : (done : FieldCall → Bool) (start end : ℕ) → start < end → ListLaw done start end
 unfolding settled netCount Below
 list-theorem done start end h = record {
-  end-number = end-is start end h done;
+  end-number = end-is start end done;
   net-count = λ calls. below-from done (end - start) (omega arith) calls (pos 0) (below-zero (end - start) (omega arith));
   bit-count = keeps done start end bitCount (call-bitCount start end);
   sign = keeps done start end isNegative (call-sign start end);

@@ -1,14 +1,15 @@
 -- Rotations and reversals of one field, composed. Each is a permutation of the field, so these are facts about index maps.
 -- Assumes nothing.
 use mathlib.Core.Path.{_≡_, sym, _∙_, ap}
+use mathlib.Core.Bool.{Bool}
 use Prim.Native.Nat.{ℕ, suc, _-_, _<_}
 use native.Mathlib.Omega.{arith}
 use lib.IntN.{ℤ, pos, negsuc, negℤ, _+ℤ_, _-ℤ_, +ℤ-idr, +ℤ-assoc, +ℤ-comm, negℤ-+ℤ, negℤ-negℤ}
-use Rattle.bits.specs.Logical.{bitwiseNot}
+use Rattle.bits.specs.Logical.{bitwiseNot, bitwise}
 use Rattle.bits.specs.Division.{modℕ, «mod»}
 use Rattle.bits.specs.Field.{rotateIndex, reverseIndex, rotateBitField, reverseBitField}
 use Rattle.bits.proofs.ModLaws.{modℕ-lt, modℕ-small, modℕ-period, modℕ-sub-l, modℕ-sub-r, modℕ-not, not-add}
-use Rattle.bits.proofs.FieldAlgebra.{permuteField-ext, permuteField-id, permuteField-compose}
+use Rattle.bits.proofs.FieldAlgebra.{permuteField-ext, permuteField-id, permuteField-compose, permuteField-not, permuteField-bitwise}
 
 -- ---- index maps
 
@@ -62,37 +63,36 @@ module _ (size : ℕ) (h : 0 < size) where
       ∙ ap (λ (x : ℤ). modℕ x size) (sym (not-add (pos j) (negℤ (negℤ c)) ∙ ap (λ (x : ℤ). negsuc j -ℤ x) (negℤ-negℤ c)))
       ∙ modℕ-not (pos j -ℤ negℤ c) size h
 
--- ---- the operations, on a field that is not empty
+-- ---- the operations, on any field; on an empty one both leave their number
 
-module _ (start end : ℕ) (h : start < end) where
-  size-pos : 0 < end - start
-  size-pos = omega arith
-
+module _ (start end : ℕ) where
   pub rotate-zero : (x : ℤ) → rotateBitField x start end (pos 0) ≡ x
   unfolding rotateBitField
-  rotate-zero x = permuteField-id (rotateIndex (end - start) (pos 0)) x start end (rotateIndex-zero (end - start) size-pos)
+  rotate-zero x =
+      permuteField-id (rotateIndex (end - start) (pos 0)) x start end (λ j l. rotateIndex-zero (end - start) (omega arith) j l)
 
+  -- only the count modulo the size matters
   pub rotate-mod : (x : ℤ) (c : ℤ) → rotateBitField x start end («mod» c (pos (end - start))) ≡ rotateBitField x start end c
   unfolding rotateBitField
   rotate-mod x c =
       permuteField-ext (rotateIndex (end - start) («mod» c (pos (end - start)))) (rotateIndex (end - start) c) x start end
-      (λ j l. rotateIndex-mod (end - start) size-pos c j)
+      (λ j l. rotateIndex-mod (end - start) (omega arith) c j)
 
   pub rotate-compose : (x : ℤ) (a b : ℤ) → rotateBitField (rotateBitField x start end a) start end b ≡ rotateBitField x start end (a +ℤ b)
   unfolding rotateBitField
   rotate-compose x a b =
       permuteField-compose (rotateIndex (end - start) a) (rotateIndex (end - start) b) x start end
-      (λ j l. rotateIndex-lt (end - start) size-pos b j)
+      (λ j l. rotateIndex-lt (end - start) (omega arith) b j)
       ∙ permuteField-ext (λ j. rotateIndex (end - start) a (rotateIndex (end - start) b j)) (rotateIndex (end - start) (a +ℤ b)) x start end
-      (λ j l. rotateIndex-compose (end - start) size-pos a b j)
+      (λ j l. rotateIndex-compose (end - start) (omega arith) a b j)
 
   pub reverse-involutive : (x : ℤ) → reverseBitField (reverseBitField x start end) start end ≡ x
   unfolding reverseBitField
   reverse-involutive x =
       permuteField-compose (reverseIndex (end - start)) (reverseIndex (end - start)) x start end
-      (λ j l. reverseIndex-lt (end - start) size-pos j)
+      (λ j l. reverseIndex-lt (end - start) (omega arith) j)
       ∙ permuteField-id (λ j. reverseIndex (end - start) (reverseIndex (end - start) j)) x start end
-      (reverseIndex-involutive (end - start) size-pos)
+      (λ j l. reverseIndex-involutive (end - start) (omega arith) j l)
 
   -- reversing a rotated field is rotating the reversed field the other way
   pub reverse-rotate : (x : ℤ) (c : ℤ)
@@ -100,17 +100,57 @@ module _ (start end : ℕ) (h : start < end) where
   unfolding rotateBitField reverseBitField
   reverse-rotate x c =
       permuteField-compose (rotateIndex (end - start) c) (reverseIndex (end - start)) x start end
-      (λ j l. reverseIndex-lt (end - start) size-pos j)
+      (λ j l. reverseIndex-lt (end - start) (omega arith) j)
       ∙ permuteField-ext (λ j. rotateIndex (end - start) c (reverseIndex (end - start) j))
       (λ j. reverseIndex (end - start) (rotateIndex (end - start) (negℤ c) j)) x start end
-      (reverseIndex-rotateIndex (end - start) size-pos c)
+      (λ j l. reverseIndex-rotateIndex (end - start) (omega arith) c j l)
       ∙ sym (permuteField-compose (reverseIndex (end - start)) (rotateIndex (end - start) (negℤ c)) x start end
-      (λ j l. rotateIndex-lt (end - start) size-pos (negℤ c) j))
+      (λ j l. rotateIndex-lt (end - start) (omega arith) (negℤ c) j))
 
-  -- 01's step of the net count at a reversal
-  pub rotate-opposite : (x : ℤ) (c : ℤ) → rotateBitField x start end («mod» (pos (end - start) -ℤ c) (pos (end - start))) ≡ rotateBitField x start end (negℤ c)
+  rotate-opposite : (x : ℤ) (c : ℤ)
+      → rotateBitField x start end («mod» (pos (end - start) -ℤ c) (pos (end - start))) ≡ rotateBitField x start end (negℤ c)
   unfolding rotateBitField
   rotate-opposite x c =
       rotate-mod x (pos (end - start) -ℤ c)
       ∙ permuteField-ext (rotateIndex (end - start) (pos (end - start) -ℤ c)) (rotateIndex (end - start) (negℤ c)) x start end
-      (λ j l. rotateIndex-period (end - start) size-pos (negℤ c) j)
+      (λ j l. rotateIndex-period (end - start) (omega arith) (negℤ c) j)
+
+  -- the three corollaries that demand 3 names: the third is reverse-involutive
+
+  -- by a and then by b
+  pub rotate-rotate : (x : ℤ) (a b : ℤ)
+      → rotateBitField (rotateBitField x start end a) start end b ≡ rotateBitField x start end («mod» (a +ℤ b) (pos (end - start)))
+  rotate-rotate x a b = rotate-compose x a b ∙ sym (rotate-mod x (a +ℤ b))
+
+  pub reverse-rotate-mod : (x : ℤ) (a : ℤ)
+      → reverseBitField (rotateBitField x start end a) start end
+      ≡ rotateBitField (reverseBitField x start end) start end («mod» (pos (end - start) -ℤ a) (pos (end - start)))
+  reverse-rotate-mod x a = reverse-rotate x a ∙ sym (rotate-opposite (reverseBitField x start end) a)
+
+  -- reverse, rotate by a, reverse
+  pub reverse-rotate-reverse : (x : ℤ) (a : ℤ)
+      → reverseBitField (rotateBitField (reverseBitField x start end) start end a) start end
+      ≡ rotateBitField x start end («mod» (pos (end - start) -ℤ a) (pos (end - start)))
+  reverse-rotate-reverse x a =
+      reverse-rotate-mod (reverseBitField x start end) a
+      ∙ ap (λ (y : ℤ). rotateBitField y start end («mod» (pos (end - start) -ℤ a) (pos (end - start)))) (reverse-involutive x)
+
+  -- ---- not and the logical operations: both commute with them, since a permutation of the bits does
+
+  pub rotate-not : (x c : ℤ) → rotateBitField (bitwiseNot x) start end c ≡ bitwiseNot (rotateBitField x start end c)
+  unfolding rotateBitField
+  rotate-not x c = permuteField-not (rotateIndex (end - start) c) x start end
+
+  pub reverse-not : (x : ℤ) → reverseBitField (bitwiseNot x) start end ≡ bitwiseNot (reverseBitField x start end)
+  unfolding reverseBitField
+  reverse-not x = permuteField-not (reverseIndex (end - start)) x start end
+
+  pub rotate-bitwise : (op : Bool → Bool → Bool) (x y c : ℤ)
+      → rotateBitField (bitwise op x y) start end c ≡ bitwise op (rotateBitField x start end c) (rotateBitField y start end c)
+  unfolding rotateBitField
+  rotate-bitwise op x y c = permuteField-bitwise (rotateIndex (end - start) c) op x y start end
+
+  pub reverse-bitwise : (op : Bool → Bool → Bool) (x y : ℤ)
+      → reverseBitField (bitwise op x y) start end ≡ bitwise op (reverseBitField x start end) (reverseBitField y start end)
+  unfolding reverseBitField
+  reverse-bitwise op x y = permuteField-bitwise (reverseIndex (end - start)) op x y start end

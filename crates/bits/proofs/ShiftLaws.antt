@@ -34,6 +34,7 @@ use Rattle.bits.proofs.TestbitLaws.{
   testbit-above,
   testbit-ofBits,
   isNegative-ofBits,
+  ofBits-testbit,
   testbit-shiftRight,
   isNegative-shiftRight,
 }
@@ -240,3 +241,7 @@ pub shiftRight-above : (x : ℤ) (k : ℕ) → bitLength x ≤ k → shiftRight 
 shiftRight-above x k h = testbit-ext (λ i. testbit-shiftRight x k i
     ∙ testbit-above x (k + i) (omega arith)
     ∙ sym (testbit-fill (isNegative x) i))
+
+-- an integer from its bits and its sign
+pub ofBits-sign : (x : ℤ) (k : ℕ) → bitLength x ≤ k → ofBits k (λ i. testbit x i) (fill (isNegative x)) ≡ x
+ofBits-sign x k h = ap (ofBits k (λ i. testbit x i)) (sym (shiftRight-above x k h)) ∙ ofBits-testbit k x

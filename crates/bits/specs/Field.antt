@@ -7,7 +7,7 @@
 --   permuteField p x start end         ==  x, with bit start + j of the field replaced by bit start + p j of x
 --   rotateBitField x start end c       ==  the field rotated by c towards the high end, c of either sign
 --   reverseBitField x start end        ==  the field with its bits in the opposite order
---   FieldLocal start end op            ==  op reads and writes no bit outside the field, but for leaving it as it is
+--   FieldLocal start end op            ==  op changes only the field, by what is in the field
 --
 --   rotateBitField x 2 8 2      bit of the result   9 8 7 6 5 4 3 2 1 0
 --                               is bit of x         9 8 5 4 3 2 7 6 1 0

@@ -2,6 +2,7 @@
 --   bitwiseNot x             ==  each bit of x inverted
 --   bitwise op x y           ==  bit i is op (bit i of x) (bit i of y), for any Boolean operation op
 --   bitwiseAnd, Ior, Xor     ==  of two integers
+--   bitwiseFrom op x ys      ==  x, and then each of ys, from the left
 --   bitwiseAll op e xs       ==  of any number of integers, from the left; e is op's identity
 --   bitwiseAnds, Iors, Xors  ==  of any number of integers; of none: -1, 0, 0
 --   bitwiseIf x y z          ==  bit i is bit i of y where bit i of x is 1, and of z where it is 0

@@ -3,7 +3,7 @@
 --   isNegative x     ==  x < 0: the sign, which is every bit from some position on
 --   testbit x i      ==  bit i of x, bit 0 lowest
 --   bitLength x      ==  R6RS bitwise-length: the bits of x, or of not x where x < 0, without leading zeros
---   fits w x         ==  -2^(w-1) <= x < 2^(w-1)
+--   fits w x         ==  -2^(w-1) <= x < 2^(w-1), for w > 0: x is a fixnum at width w
 --   fill s           ==  the integer all of whose bits are s
 --   consBit b x      ==  2 x + b
 --   ofBits k f t     ==  the integer whose bits are f 0 .. f (k-1), and then those of t
