@@ -45,9 +45,9 @@ setField-not x start end g = testbit-ext λ i.
     pick true a b = refl
     pick false a b = refl
 
-pub setField-bitwise : (op : Bool → Bool → Bool) (x y : ℤ) (start end : ℕ) (g h : ℕ → Bool)
+pub setField-distrib-bitwise : (op : Bool → Bool → Bool) (x y : ℤ) (start end : ℕ) (g h : ℕ → Bool)
     → setField (bitwise op x y) start end (λ j. op (g j) (h j)) ≡ bitwise op (setField x start end g) (setField y start end h)
-setField-bitwise op x y start end g h = testbit-ext λ i.
+setField-distrib-bitwise op x y start end g h = testbit-ext λ i.
     testbit-setField (bitwise op x y) start end (λ j. op (g j) (h j)) i
     ∙ ap (λ (b : Bool). cond (inField start end i) (op (g (i - start)) (h (i - start))) b) (testbit-bitwise op x y i)
     ∙ pick (inField start end i) (g (i - start)) (h (i - start)) (testbit x i) (testbit y i)
@@ -97,13 +97,13 @@ copyBit-copyBit x k = copyBitField-copyBitField x k (suc k)
 
 -- ---- distribution over the logical operations
 
-pub copyBitField-bitwise : (op : Bool → Bool → Bool) (x y : ℤ) (start end : ℕ) (u v : ℤ)
+pub copyBitField-distrib-bitwise : (op : Bool → Bool → Bool) (x y : ℤ) (start end : ℕ) (u v : ℤ)
     → copyBitField (bitwise op x y) start end (bitwise op u v) ≡ bitwise op (copyBitField x start end u) (copyBitField y start end v)
 unfolding copyBitField
-copyBitField-bitwise op x y start end u v =
+copyBitField-distrib-bitwise op x y start end u v =
     setField-ext (bitwise op x y) (bitwise op x y) start end (λ j. testbit (bitwise op u v) j) (λ j. op (testbit u j) (testbit v j))
     (λ i o. refl) (λ j h. testbit-bitwise op u v j)
-    ∙ setField-bitwise op x y start end (λ j. testbit u j) (λ j. testbit v j)
+    ∙ setField-distrib-bitwise op x y start end (λ j. testbit u j) (λ j. testbit v j)
 
 pub copyBitField-not : (x : ℤ) (start end : ℕ) (u : ℤ)
     → copyBitField (bitwiseNot x) start end (bitwiseNot u) ≡ bitwiseNot (copyBitField x start end u)
@@ -114,9 +114,9 @@ copyBitField-not x start end u =
     ∙ setField-not x start end (λ j. testbit u j)
 
 -- a field is 0 above its size, so the operation must keep 0 there
-pub bitField-bitwise : (op : Bool → Bool → Bool) → op false false ≡ false → (x y : ℤ) (start end : ℕ)
+pub bitField-distrib-bitwise : (op : Bool → Bool → Bool) → op false false ≡ false → (x y : ℤ) (start end : ℕ)
     → bitField (bitwise op x y) start end ≡ bitwise op (bitField x start end) (bitField y start end)
-bitField-bitwise op keeps x y start end = testbit-ext λ j.
+bitField-distrib-bitwise op keeps x y start end = testbit-ext λ j.
     testbit-bitField (bitwise op x y) start end j
     ∙ ap (λ (b : Bool). ltb j (end - start) && b) (testbit-bitwise op x y (start + j))
     ∙ pick (ltb j (end - start)) (testbit x (start + j)) (testbit y (start + j))
@@ -156,13 +156,13 @@ permuteField-not p x start end =
     (λ i o. refl) (λ j h. testbit-not x (start + p j))
     ∙ setField-not x start end (λ j. testbit x (start + p j))
 
-pub permuteField-bitwise : (p : ℕ → ℕ) (op : Bool → Bool → Bool) (x y : ℤ) (start end : ℕ)
+pub permuteField-distrib-bitwise : (p : ℕ → ℕ) (op : Bool → Bool → Bool) (x y : ℤ) (start end : ℕ)
     → permuteField p (bitwise op x y) start end ≡ bitwise op (permuteField p x start end) (permuteField p y start end)
 unfolding permuteField
-permuteField-bitwise p op x y start end =
+permuteField-distrib-bitwise p op x y start end =
     setField-ext (bitwise op x y) (bitwise op x y) start end (λ j. testbit (bitwise op x y) (start + p j))
     (λ j. op (testbit x (start + p j)) (testbit y (start + p j))) (λ i o. refl) (λ j h. testbit-bitwise op x y (start + p j))
-    ∙ setField-bitwise op x y start end (λ j. testbit x (start + p j)) (λ j. testbit y (start + p j))
+    ∙ setField-distrib-bitwise op x y start end (λ j. testbit x (start + p j)) (λ j. testbit y (start + p j))
 
 -- 0 and -1 stay as they are
 pub permuteField-fill : (p : ℕ → ℕ) (s : Bool) (start end : ℕ) → permuteField p (fill s) start end ≡ fill s

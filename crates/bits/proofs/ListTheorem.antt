@@ -34,7 +34,7 @@ use Rattle.bits.proofs.ArgumentLaws.{all-map}
 use Rattle.bits.proofs.ModLaws.{modℕ-self, modℕ-inj}
 use Rattle.bits.proofs.DivisionLaws.{mod-bounds}
 use Rattle.bits.proofs.FieldLaws.{inField-true, testbit-setField-out, testbit-rotateBitField, isNegative-permuteField}
-use Rattle.bits.proofs.FieldAlgebra.{permuteField-not, permuteField-bitwise, permuteField-fill}
+use Rattle.bits.proofs.FieldAlgebra.{permuteField-not, permuteField-distrib-bitwise, permuteField-fill}
 use Rattle.bits.proofs.RotateLaws.{rotateIndex-lt, rotateIndex-zero, rotateIndex-compose, reverseIndex-lt, reverseIndex-involutive, rotate-zero, rotate-rotate, reverse-rotate-mod, reverse-rotate-reverse}
 use Rattle.bits.proofs.CountLaws.{Permutes, bitCount-permuteField}
 
@@ -150,7 +150,7 @@ module _ (start end : ℕ) where
       → runCall start end call (bitwise op x y) ≡ bitwise op (runCall start end call x) (runCall start end call y)
   call-bitwise op call x y =
       runCall-permutes start end call (bitwise op x y)
-      ∙ permuteField-bitwise (indexMap (end - start) call) op x y start end
+      ∙ permuteField-distrib-bitwise (indexMap (end - start) call) op x y start end
       ∙ sym (ap₂ (bitwise op) (runCall-permutes start end call x) (runCall-permutes start end call y))
 
   call-fill : (e : Bool) (call : FieldCall) (x y : ℤ) → runCall start end call (fill e) ≡ fill e

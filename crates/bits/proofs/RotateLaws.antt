@@ -9,7 +9,7 @@ use Rattle.bits.specs.Logical.{bitwiseNot, bitwise}
 use Rattle.bits.specs.Division.{modℕ, «mod»}
 use Rattle.bits.specs.Field.{rotateIndex, reverseIndex, rotateBitField, reverseBitField}
 use Rattle.bits.proofs.ModLaws.{modℕ-lt, modℕ-small, modℕ-period, modℕ-sub-l, modℕ-sub-r, modℕ-not, not-add}
-use Rattle.bits.proofs.FieldAlgebra.{permuteField-ext, permuteField-id, permuteField-compose, permuteField-not, permuteField-bitwise}
+use Rattle.bits.proofs.FieldAlgebra.{permuteField-ext, permuteField-id, permuteField-compose, permuteField-not, permuteField-distrib-bitwise}
 
 -- ---- index maps
 
@@ -145,12 +145,12 @@ module _ (start end : ℕ) where
   unfolding reverseBitField
   reverse-not x = permuteField-not (reverseIndex (end - start)) x start end
 
-  pub rotate-bitwise : (op : Bool → Bool → Bool) (x y c : ℤ)
+  pub rotate-distrib-bitwise : (op : Bool → Bool → Bool) (x y c : ℤ)
       → rotateBitField (bitwise op x y) start end c ≡ bitwise op (rotateBitField x start end c) (rotateBitField y start end c)
   unfolding rotateBitField
-  rotate-bitwise op x y c = permuteField-bitwise (rotateIndex (end - start) c) op x y start end
+  rotate-distrib-bitwise op x y c = permuteField-distrib-bitwise (rotateIndex (end - start) c) op x y start end
 
-  pub reverse-bitwise : (op : Bool → Bool → Bool) (x y : ℤ)
+  pub reverse-distrib-bitwise : (op : Bool → Bool → Bool) (x y : ℤ)
       → reverseBitField (bitwise op x y) start end ≡ bitwise op (reverseBitField x start end) (reverseBitField y start end)
   unfolding reverseBitField
-  reverse-bitwise op x y = permuteField-bitwise (reverseIndex (end - start)) op x y start end
+  reverse-distrib-bitwise op x y = permuteField-distrib-bitwise (reverseIndex (end - start)) op x y start end

@@ -211,15 +211,15 @@ unfolding shiftRight floorDiv bitwiseNot
 shiftRight-not (pos n) k = refl
 shiftRight-not (negsuc n) k = refl
 
-pub shiftRight-bitwise : (op : Bool → Bool → Bool) (x y : ℤ) (k : ℕ)
+pub shiftRight-distrib-bitwise : (op : Bool → Bool → Bool) (x y : ℤ) (k : ℕ)
     → shiftRight (bitwise op x y) k ≡ bitwise op (shiftRight x k) (shiftRight y k)
-shiftRight-bitwise op x y k = testbit-ext (λ i. testbit-shiftRight (bitwise op x y) k i
+shiftRight-distrib-bitwise op x y k = testbit-ext (λ i. testbit-shiftRight (bitwise op x y) k i
     ∙ testbit-bitwise op x y (k + i)
     ∙ sym (testbit-bitwise op (shiftRight x k) (shiftRight y k) i ∙ ap₂ op (testbit-shiftRight x k i) (testbit-shiftRight y k i)))
 
-pub shiftLeft-bitwise : (op : Bool → Bool → Bool) (x y : ℤ) (k : ℕ) → op false false ≡ false
+pub shiftLeft-distrib-bitwise : (op : Bool → Bool → Bool) (x y : ℤ) (k : ℕ) → op false false ≡ false
     → shiftLeft (bitwise op x y) k ≡ bitwise op (shiftLeft x k) (shiftLeft y k)
-shiftLeft-bitwise op x y k o = testbit-ext (λ i. testbit-shiftLeft (bitwise op x y) k i
+shiftLeft-distrib-bitwise op x y k o = testbit-ext (λ i. testbit-shiftLeft (bitwise op x y) k i
     ∙ ap (λ (b : Bool). not (ltb i k) && b) (testbit-bitwise op x y (i - k))
     ∙ pick (ltb i k) (testbit x (i - k)) (testbit y (i - k))
     ∙ sym (testbit-bitwise op (shiftLeft x k) (shiftLeft y k) i ∙ ap₂ op (testbit-shiftLeft x k i) (testbit-shiftLeft y k i)))
