@@ -50,7 +50,8 @@ module _ (op : Bool → Bool → Bool) (e : Bool) (identity : (a : Bool) → op 
       testbit-all op e (x ∷ y ∷ []) i ∙ ap (λ (b : Bool). op b (testbit y i)) (identity (testbit x i)) ∙ sym (testbit-bitwise op x y i)
 
 -- an associative op with identity e: the arguments may be grouped at will
-module _ (op : Bool → Bool → Bool) (e : Bool) (identity-r : (a : Bool) → op a e ≡ a) (assoc : (a b c : Bool) → op (op a b) c ≡ op a (op b c)) where
+module _ (op : Bool → Bool → Bool) (e : Bool) (identity-r : (a : Bool) → op a e ≡ a)
+    (assoc : (a b c : Bool) → op (op a b) c ≡ op a (op b c)) where
   fold-op : (xs : List ℤ) (a b : Bool) (i : ℕ) → foldBits op (op a b) xs i ≡ op a (foldBits op b xs i)
   fold-op [] a b i = refl
   fold-op (x ∷ xs) a b i = ap (λ (c : Bool). foldBits op c xs i) (assoc a b (testbit x i)) ∙ fold-op xs a (op b (testbit x i)) i

@@ -8,7 +8,25 @@ use mathlib.Core.Bool.{Bool, true, false, cond}
 use Prim.Native.Nat.{ℕ, zero, suc, _+_, _*_, _-_, _/_, _≤_, _<_}
 use native.Mathlib.Omega.{arith}
 use lib.Dec.{T, leb, ltb, leb·zero, leb·suc-zero, leb·suc-suc, ltb→lt}
-use lib.IntN.{ℤ, pos, negsuc, sucℤ, predℤ, negℤ, natAbs, _+ℤ_, _-ℤ_, _*ℤ_, +ℤ-idr, +ℤ-assoc, +ℤ-negℤ-cancel, -ℤ-+ℤ-cancel, negℤ-negℤ, sucℤ-*ℤ, predℤ-*ℤ}
+use lib.IntN.{
+  ℤ,
+  pos,
+  negsuc,
+  sucℤ,
+  predℤ,
+  negℤ,
+  natAbs,
+  _+ℤ_,
+  _-ℤ_,
+  _*ℤ_,
+  +ℤ-idr,
+  +ℤ-assoc,
+  +ℤ-negℤ-cancel,
+  -ℤ-+ℤ-cancel,
+  negℤ-negℤ,
+  sucℤ-*ℤ,
+  predℤ-*ℤ,
+}
 use lib.Signed.{leZ, ltZ, _≤ℤ_, _<ℤ_, leZ-yes, ltZ-yes}
 use borrow.Author.Tests.{leb-true, leb-false, le-leb, lt-ltb}
 use Rattle.bits.specs.Testbit.{isNegative}

@@ -27,14 +27,16 @@ setField-ext x y start end g h out into = testbit-ext λ i.
     ∙ sym (testbit-setField y start end h i)
 
 -- the bits that the field has already
-pub setField-same : (x : ℤ) (start end : ℕ) (g : ℕ → Bool) → ((j : ℕ) → j < end - start → g j ≡ testbit x (start + j)) → setField x start end g ≡ x
+pub setField-same : (x : ℤ) (start end : ℕ) (g : ℕ → Bool) → ((j : ℕ) → j < end - start → g j ≡ testbit x (start + j))
+    → setField x start end g ≡ x
 setField-same x start end g into = testbit-ext λ i.
     testbit-setField x start end g i
     ∙ by-field (λ b. cond b (g (i - start)) (testbit x i) ≡ testbit x i) start end i
     (λ l u. into (i - start) (omega arith) ∙ (let e : start + (i - start) ≡ i = omega arith in ap (λ (m : ℕ). testbit x m) e))
     (λ o. refl)
 
-pub setField-not : (x : ℤ) (start end : ℕ) (g : ℕ → Bool) → setField (bitwiseNot x) start end (λ j. not (g j)) ≡ bitwiseNot (setField x start end g)
+pub setField-not : (x : ℤ) (start end : ℕ) (g : ℕ → Bool)
+    → setField (bitwiseNot x) start end (λ j. not (g j)) ≡ bitwiseNot (setField x start end g)
 setField-not x start end g = testbit-ext λ i.
     testbit-setField (bitwiseNot x) start end (λ j. not (g j)) i
     ∙ ap (λ (b : Bool). cond (inField start end i) (not (g (i - start))) b) (testbit-not x i)
@@ -79,7 +81,8 @@ copyBitField-bitField x start end =
     (λ j h. testbit-bitField x start end j ∙ ap (λ (b : Bool). b && testbit x (start + j)) (lt-ltb j (end - start) h))
 
 -- the later of two puts counts
-pub copyBitField-copyBitField : (x : ℤ) (start end : ℕ) (y z : ℤ) → copyBitField (copyBitField x start end y) start end z ≡ copyBitField x start end z
+pub copyBitField-copyBitField : (x : ℤ) (start end : ℕ) (y z : ℤ)
+    → copyBitField (copyBitField x start end y) start end z ≡ copyBitField x start end z
 unfolding copyBitField
 copyBitField-copyBitField x start end y z =
     setField-ext (setField x start end (λ j. testbit y j)) x start end (λ j. testbit z j) (λ j. testbit z j)
@@ -129,7 +132,8 @@ bitField-distrib-bitwise op keeps x y start end = testbit-ext λ j.
 
 -- ---- permutations of a field
 
-pub permuteField-ext : (p q : ℕ → ℕ) (x : ℤ) (start end : ℕ) → ((j : ℕ) → j < end - start → p j ≡ q j) → permuteField p x start end ≡ permuteField q x start end
+pub permuteField-ext : (p q : ℕ → ℕ) (x : ℤ) (start end : ℕ) → ((j : ℕ) → j < end - start → p j ≡ q j)
+    → permuteField p x start end ≡ permuteField q x start end
 unfolding permuteField
 permuteField-ext p q x start end e =
     setField-ext x x start end (λ j. testbit x (start + p j)) (λ j. testbit x (start + q j)) (λ i o. refl)
@@ -145,7 +149,8 @@ pub permuteField-compose : (p q : ℕ → ℕ) (x : ℤ) (start end : ℕ) → (
     → permuteField q (permuteField p x start end) start end ≡ permuteField (λ j. p (q j)) x start end
 unfolding permuteField
 permuteField-compose p q x start end into =
-    setField-ext (permuteField p x start end) x start end (λ j. testbit (permuteField p x start end) (start + q j)) (λ j. testbit x (start + p (q j)))
+    setField-ext (permuteField p x start end) x start end (λ j. testbit (permuteField p x start end) (start + q j))
+    (λ j. testbit x (start + p (q j)))
     (testbit-setField-out x start end (λ j. testbit x (start + p j)))
     (λ j h. testbit-setField-in x start end (λ j. testbit x (start + p j)) (q j) (into j h))
 
@@ -168,4 +173,5 @@ permuteField-distrib-bitwise p op x y start end =
 pub permuteField-fill : (p : ℕ → ℕ) (s : Bool) (start end : ℕ) → permuteField p (fill s) start end ≡ fill s
 unfolding permuteField
 permuteField-fill p s start end =
-    setField-same (fill s) start end (λ j. testbit (fill s) (start + p j)) (λ j h. testbit-fill s (start + p j) ∙ sym (testbit-fill s (start + j)))
+    setField-same (fill s) start end (λ j. testbit (fill s) (start + p j))
+    (λ j h. testbit-fill s (start + p j) ∙ sym (testbit-fill s (start + j)))

@@ -23,7 +23,13 @@ use Rattle.bits.specs.Field.{
   reverseBitField,
 }
 use Rattle.bits.proofs.Booleans.{all₁}
-use Rattle.bits.proofs.TestbitLaws.{testbit-zero, testbit-ofBits, testbit-ofBits-shiftRight, isNegative-ofBits, isNegative-shiftRight}
+use Rattle.bits.proofs.TestbitLaws.{
+  testbit-zero,
+  testbit-ofBits,
+  testbit-ofBits-shiftRight,
+  isNegative-ofBits,
+  isNegative-shiftRight,
+}
 
 -- ---- positions
 
@@ -119,6 +125,12 @@ pub testbit-rotateBitField : (x : ℤ) (start end : ℕ) (c : ℤ) (i : ℕ)
     ≡ cond (inField start end i) (testbit x (start + modℕ (pos (i - start) -ℤ c) (end - start))) (testbit x i)
 unfolding rotateBitField rotateIndex
 testbit-rotateBitField x start end c = testbit-permuteField (rotateIndex (end - start) c) x start end
+
+-- the same, counted from the field's start
+pub testbit-rotateBitField-in : (x : ℤ) (start end : ℕ) (c : ℤ) (j : ℕ) → j < end - start
+    → testbit (rotateBitField x start end c) (start + j) ≡ testbit x (start + modℕ (pos j -ℤ c) (end - start))
+unfolding rotateBitField permuteField rotateIndex
+testbit-rotateBitField-in x start end c = testbit-setField-in x start end (λ j. testbit x (start + rotateIndex (end - start) c j))
 
 -- 01: result bit i of the field is bit start + end - 1 - i of x
 pub testbit-reverseBitField : (x : ℤ) (start end i : ℕ)

@@ -5,14 +5,13 @@ use mathlib.Core.Path.{_≡_, refl, sym, _∙_, ap, ap₂}
 use mathlib.Core.Logic.{_≢_}
 use mathlib.Core.Bool.{Bool, true, false, cond, _&&_, xor, true≢false}
 use mathlib.Core.List.{List, [], _∷_, map}
-use Prim.Native.Nat.{ℕ, zero, suc, _+_, _-_, _/_, _^_, _<_}
-use native.Mathlib.Nat.{add-zero, div-self, div-eq-of-lt, add-sub-cancel-left}
+use Prim.Native.Nat.{ℕ, zero, suc, _+_, _-_, _^_, _<_}
 use native.Mathlib.Omega.{arith}
-use lib.Dec.{lt→ltb}
-use lib.Pow.{pow-pos, pow-lt}
+use lib.Dec.{eqb, lt→ltb}
 use lib.IntN.{ℤ, pos, negℤ, natAbs, _+ℤ_, _-ℤ_, +ℤ-invr, +ℤ-invl}
 use lib.Signed.{_≤ℤ_, _<ℤ_, leZ-yes, ltZ-yes}
-use Rattle.bits.specs.Testbit.{odd, isNegative, testbit, fill}
+use borrow.Author.Tests.{eq-eqb, ne-eqb}
+use Rattle.bits.specs.Testbit.{isNegative, testbit, fill}
 use Rattle.bits.specs.Logical.{bitwiseNot, bitwise, bitwiseAll}
 use Rattle.bits.specs.Division.{modℕ, «mod»}
 use Rattle.bits.specs.Field.{inField, permuteField, rotateIndex, reverseIndex, rotateBitField, reverseBitField}
@@ -31,11 +30,22 @@ use Rattle.bits.specs.FieldList.{
 }
 use Rattle.bits.proofs.Booleans.{all₁, all₃}
 use Rattle.bits.proofs.ArgumentLaws.{all-map}
+use Rattle.bits.proofs.ShiftLaws.{testbit-pow}
 use Rattle.bits.proofs.ModLaws.{modℕ-self, modℕ-inj}
 use Rattle.bits.proofs.DivisionLaws.{mod-bounds}
-use Rattle.bits.proofs.FieldLaws.{inField-true, testbit-setField-out, testbit-rotateBitField, isNegative-permuteField}
+use Rattle.bits.proofs.FieldLaws.{testbit-setField-out, testbit-rotateBitField-in, isNegative-permuteField}
 use Rattle.bits.proofs.FieldAlgebra.{permuteField-not, permuteField-distrib-bitwise, permuteField-fill}
-use Rattle.bits.proofs.RotateLaws.{rotateIndex-lt, rotateIndex-zero, rotateIndex-compose, reverseIndex-lt, reverseIndex-involutive, rotate-zero, rotate-rotate, reverse-rotate-mod, reverse-rotate-reverse}
+use Rattle.bits.proofs.RotateLaws.{
+  rotateIndex-lt,
+  rotateIndex-zero,
+  rotateIndex-compose,
+  reverseIndex-lt,
+  reverseIndex-involutive,
+  rotate-zero,
+  rotate-rotate,
+  reverse-rotate-mod,
+  reverse-rotate-reverse,
+}
 use Rattle.bits.proofs.CountLaws.{Permutes, bitCount-permuteField}
 
 -- ---- the statement
@@ -80,14 +90,16 @@ keeps done start end f each (call ∷ calls) x =
 -- an operation that each call distributes over
 over : (done : FieldCall → Bool) (start end : ℕ) (B : ℤ → ℤ → ℤ)
     → ((call : FieldCall) (x y : ℤ) → runCall start end call (B x y) ≡ B (runCall start end call x) (runCall start end call y))
-    → (calls : List FieldCall) (x y : ℤ) → runCalls done start end calls (B x y) ≡ B (runCalls done start end calls x) (runCalls done start end calls y)
+    → (calls : List FieldCall) (x y : ℤ)
+    → runCalls done start end calls (B x y) ≡ B (runCalls done start end calls x) (runCalls done start end calls y)
 unfolding runCalls
 over done start end B each [] x y = refl
 over done start end B each (call ∷ calls) x y =
     ap (runCalls done start end calls) (one (done call))
     ∙ over done start end B each calls (cond (done call) (runCall start end call x) x) (cond (done call) (runCall start end call y) y)
   where
-    one : (b : Bool) → cond b (runCall start end call (B x y)) (B x y) ≡ B (cond b (runCall start end call x) x) (cond b (runCall start end call y) y)
+    one : (b : Bool)
+        → cond b (runCall start end call (B x y)) (B x y) ≡ B (cond b (runCall start end call x) x) (cond b (runCall start end call y) y)
     one true = each call x y
     one false = refl
 
@@ -229,7 +241,8 @@ unfolding countCall
 below-call size h (rotate c) s = below-mod size h (s +ℤ c)
 below-call size h reverse s = below-mod size h (pos size -ℤ s)
 
-below-from : (done : FieldCall → Bool) (size : ℕ) → 0 < size → (calls : List FieldCall) (s : ℤ) → Below size s → Below size (netCountFrom done size calls s)
+below-from : (done : FieldCall → Bool) (size : ℕ) → 0 < size → (calls : List FieldCall) (s : ℤ) → Below size s
+    → Below size (netCountFrom done size calls s)
 unfolding netCountFrom
 below-from done size h [] s k = k
 below-from done size h (call ∷ calls) s k =
@@ -241,41 +254,26 @@ below-from done size h (call ∷ calls) s k =
 
 -- ---- different counts differ
 
-first-bit : (start : ℕ) → testbit (pos (2 ^ start)) (start + 0) ≡ true
-unfolding testbit odd
-first-bit start = ap (λ (k : ℕ). odd (2 ^ start / 2 ^ k)) (add-zero start) ∙ ap odd (div-self (pow-pos start))
+-- bit start + c of 2^start rotated by c is 1, and rotated by d it is 0
+differ : (start end c d : ℕ) → c < end - start → d < end - start → c ≢ d
+    → rotateBitField (pos (2 ^ start)) start end (pos c) ≢ rotateBitField (pos (2 ^ start)) start end (pos d)
+differ start end c d l k ne e = go (modℕ (pos c -ℤ pos d) (end - start)) refl
+  where
+    bit : (b m : ℕ) → modℕ (pos c -ℤ pos b) (end - start) ≡ m
+        → testbit (rotateBitField (pos (2 ^ start)) start end (pos b)) (start + c) ≡ eqb (start + m) start
+    bit b m z =
+        testbit-rotateBitField-in (pos (2 ^ start)) start end (pos b) c l
+        ∙ ap (λ (n : ℕ). testbit (pos (2 ^ start)) (start + n)) z
+        ∙ testbit-pow start (start + m)
 
-other-bits : (start k : ℕ) → testbit (pos (2 ^ start)) (start + suc k) ≡ false
-unfolding testbit odd
-other-bits start k = let h : start < start + suc k = omega arith in ap odd (div-eq-of-lt (pow-lt h))
-
-module _ (start end : ℕ) (h : start < end) where
-  -- bit start + c of 2^start rotated by d
-  rotated-bit : (c d : ℕ) → c < end - start
-      → testbit (rotateBitField (pos (2 ^ start)) start end (pos d)) (start + c)
-      ≡ testbit (pos (2 ^ start)) (start + modℕ (pos c -ℤ pos d) (end - start))
-  rotated-bit c d l =
-      testbit-rotateBitField (pos (2 ^ start)) start end (pos d) (start + c)
-      ∙ ap (λ (b : Bool). cond b (testbit (pos (2 ^ start)) (start + modℕ (pos (start + c - start) -ℤ pos d) (end - start))) (testbit (pos (2 ^ start)) (start + c)))
-      (inField-true start end (start + c) (omega arith) (omega arith))
-      ∙ ap (λ (k : ℕ). testbit (pos (2 ^ start)) (start + modℕ (pos k -ℤ pos d) (end - start))) (add-sub-cancel-left start c)
-
-  differ : (c d : ℕ) → c < end - start → d < end - start → c ≢ d
-      → rotateBitField (pos (2 ^ start)) start end (pos c) ≢ rotateBitField (pos (2 ^ start)) start end (pos d)
-  differ c d l k ne e = go (modℕ (pos c -ℤ pos d) (end - start)) refl
-    where
-      here : testbit (rotateBitField (pos (2 ^ start)) start end (pos c)) (start + c) ≡ true
-      here = rotated-bit c c l ∙ ap (λ (m : ℕ). testbit (pos (2 ^ start)) (start + m)) (modℕ-self (pos c) (end - start)) ∙ first-bit start
-
-      go : (m : ℕ) → modℕ (pos c -ℤ pos d) (end - start) ≡ m → ⊥
-      go zero z = ne (modℕ-inj c d (end - start) l k z)
-      go (suc m) z =
-          true≢false
-          (sym here
-          ∙ ap (λ (y : ℤ). testbit y (start + c)) e
-          ∙ rotated-bit c d l
-          ∙ ap (λ (n : ℕ). testbit (pos (2 ^ start)) (start + n)) z
-          ∙ other-bits start m)
+    go : (m : ℕ) → modℕ (pos c -ℤ pos d) (end - start) ≡ m → ⊥
+    go zero z = ne (modℕ-inj c d (end - start) l k z)
+    go (suc m) z =
+        true≢false
+        (sym (bit c 0 (modℕ-self (pos c) (end - start)) ∙ eq-eqb (start + 0) start (omega arith))
+        ∙ ap (λ (y : ℤ). testbit y (start + c)) e
+        ∙ bit d (suc m) z
+        ∙ ne-eqb (start + suc m) start (λ q. omega arith))
 
 -- ---- the theorem
 
@@ -292,5 +290,5 @@ list-theorem done start end h = record {
   distributes-all = λ calls op e.
       all-map op e (runCalls done start end calls) (over done start end (λ x y. fill e) (call-fill start end e) calls (pos 0) (pos 0))
       (over done start end (bitwise op) (call-bitwise start end op) calls);
-  counts-differ = differ start end h;
+  counts-differ = differ start end;
 }

@@ -9,7 +9,13 @@ use Rattle.bits.specs.Logical.{bitwiseNot, bitwise}
 use Rattle.bits.specs.Division.{modℕ, «mod»}
 use Rattle.bits.specs.Field.{rotateIndex, reverseIndex, rotateBitField, reverseBitField}
 use Rattle.bits.proofs.ModLaws.{modℕ-lt, modℕ-small, modℕ-period, modℕ-sub-l, modℕ-sub-r, modℕ-not, not-add}
-use Rattle.bits.proofs.FieldAlgebra.{permuteField-ext, permuteField-id, permuteField-compose, permuteField-not, permuteField-distrib-bitwise}
+use Rattle.bits.proofs.FieldAlgebra.{
+  permuteField-ext,
+  permuteField-id,
+  permuteField-compose,
+  permuteField-not,
+  permuteField-distrib-bitwise,
+}
 
 -- ---- index maps
 
@@ -55,7 +61,8 @@ module _ (size : ℕ) (h : 0 < size) where
   reverseIndex-mod j l = modℕ-not (pos j) size h ∙ ap (λ (n : ℕ). size - suc n) (modℕ-small j size l)
 
   -- a reversal after a rotation is a reversal before the opposite rotation
-  pub reverseIndex-rotateIndex : (c : ℤ) (j : ℕ) → j < size → rotateIndex size c (reverseIndex size j) ≡ reverseIndex size (rotateIndex size (negℤ c) j)
+  pub reverseIndex-rotateIndex : (c : ℤ) (j : ℕ) → j < size
+      → rotateIndex size c (reverseIndex size j) ≡ reverseIndex size (rotateIndex size (negℤ c) j)
   unfolding rotateIndex reverseIndex bitwiseNot
   reverseIndex-rotateIndex c j l =
       ap (λ (n : ℕ). modℕ (pos n -ℤ c) size) (sym (reverseIndex-mod j l))

@@ -336,7 +336,9 @@ shorter-field n start end count j l =
     ∙ sym (testbit-shiftLeft (bitField n start end) count j)
   where
     in-field : (e : ℕ) → j - count < e - start → testbit (bitField n start e) (j - count) ≡ testbit n (start + (j - count))
-    in-field e h = testbit-bitField n start e (j - count) ∙ ap (λ (b : Bool). b && testbit n (start + (j - count))) (lt-ltb (j - count) (e - start) h)
+    in-field e h =
+        testbit-bitField n start e (j - count)
+        ∙ ap (λ (b : Bool). b && testbit n (start + (j - count))) (lt-ltb (j - count) (e - start) h)
 
 pub sample-fxRotateBitField : (n : ℤ) (start end count : ℕ) → count < end - start
     → fxRotateBitFieldSample n start end count ≡ rotateBitField n start end (pos count)

@@ -6,6 +6,7 @@ use native.Mathlib.Nat.{
   pow-suc,
   mul-assoc,
   mul-one,
+  one-mul,
   zero-mul,
   div-one,
   add-zero,
@@ -119,6 +120,10 @@ testbit-shiftLeft-one (suc k) (suc i) =
     ∙ testbit-consBit-suc false (shiftLeft (pos 1) k) i
     ∙ testbit-shiftLeft-one k i
     ∙ sym (eqb·suc-suc i k)
+
+pub testbit-pow : (k i : ℕ) → testbit (pos (2 ^ k)) i ≡ eqb i k
+unfolding shiftLeft
+testbit-pow k i = ap (λ (m : ℕ). testbit (pos m) i) (sym (one-mul (2 ^ k))) ∙ testbit-shiftLeft-one k i
 
 -- -1 to the left: k zeros, and from there on ones
 pub testbit-shiftLeft-ones : (k i : ℕ) → testbit (shiftLeft (negsuc 0) k) i ≡ not (ltb i k)
