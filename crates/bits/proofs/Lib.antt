@@ -9,6 +9,7 @@ pub mod ArgumentLaws
 pub mod ShiftLaws
 pub mod ModLaws
 pub mod DivisionLaws
+pub mod ValueLaws
 pub mod FieldLaws
 pub mod FieldAlgebra
 pub mod RotateLaws

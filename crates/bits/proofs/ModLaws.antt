@@ -34,7 +34,7 @@ not-sub (negsuc n) y = not-add (pos n) y
 -- ---- x is q m + r with r < m for floorDiv x m and modℕ x m, and for no other q and r
 
 -- -(k + 1) m + r, for r < m
-negsuc-digits : (k m r : ℕ) → r < m → negsuc k *ℤ pos m +ℤ pos r ≡ negsuc (k * m + (m - suc r))
+pub negsuc-digits : (k m r : ℕ) → r < m → negsuc k *ℤ pos m +ℤ pos r ≡ negsuc (k * m + (m - suc r))
 negsuc-digits k m r h =
     (let e : suc k * m ≡ suc (k * m + (m - 1)) = omega arith in ap (λ (n : ℕ). negℤ (pos n) +ℤ pos r) e)
     ∙ subℕ-lt r (suc (k * m + (m - 1))) (omega arith)

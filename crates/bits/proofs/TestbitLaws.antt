@@ -20,7 +20,7 @@ use Rattle.bits.specs.Shift.{floorDiv, shiftRight}
 pub half-pow : (n i : ℕ) → n / 2 ^ suc i ≡ n / 2 / 2 ^ i
 half-pow n i = ap (λ (d : ℕ). n / d) (pow-succ' 2 i) ∙ sym (div-div-eq-div-mul n 2 (2 ^ i))
 
-testbit-half : (x : ℤ) (i : ℕ) → testbit x (suc i) ≡ testbit (floorDiv x 2) i
+pub testbit-half : (x : ℤ) (i : ℕ) → testbit x (suc i) ≡ testbit (floorDiv x 2) i
 unfolding testbit floorDiv
 testbit-half (pos n) i = ap odd (half-pow n i)
 testbit-half (negsuc n) i = ap (λ (m : ℕ). not (odd m)) (half-pow n i)
@@ -42,7 +42,7 @@ testbit-consBit-zero b (negsuc n) = ap (λ (m : ℕ). not (odd m)) (div-one (n *
 half-cons : (n c : ℕ) → c < 2 → (n * 2 + c) / 2 ≡ n
 half-cons n c h = omega arith
 
-cond-lt : (b : Bool) (c d : ℕ) → c < 2 → d < 2 → cond b c d < 2
+pub cond-lt : (b : Bool) (c d : ℕ) → c < 2 → d < 2 → cond b c d < 2
 cond-lt true c d h k = h
 cond-lt false c d h k = k
 
