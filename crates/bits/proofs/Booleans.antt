@@ -1,7 +1,7 @@
 -- Boolean identities, proved by computing both sides at every value. Assumes nothing.
 --   all₁ f g tt  :  f a ≡ g a for each a, where antt computes that they agree; all₂ and all₃ for two and three arguments
-use mathlib.Core.Path.{_≡_, refl}
-use mathlib.Core.Bool.{Bool, true, false, _&&_, Bool·beq}
+use mathlib.Core.Path.{_≡_, refl, sym}
+use mathlib.Core.Bool.{Bool, true, false, not, _&&_, Bool·beq}
 use lib.Dec.{T}
 
 abbrev pub agree₁ : (Bool → Bool) → (Bool → Bool) → Bool
@@ -38,3 +38,20 @@ all₂ f g t false = all₁ (f false) (g false) (right (agree₁ (f true) (g tru
 pub all₃ : (f g : Bool → Bool → Bool → Bool) → T (agree₃ f g) → (a b c : Bool) → f a b c ≡ g a b c
 all₃ f g t true = all₂ (f true) (g true) (left (agree₂ (f true) (g true)) (agree₂ (f false) (g false)) t)
 all₃ f g t false = all₂ (f false) (g false) (right (agree₂ (f true) (g true)) (agree₂ (f false) (g false)) t)
+
+pub and-true : (b : Bool) → b && true ≡ b
+and-true = all₁ (λ b. b && true) (λ b. b) tt
+
+pub and-false : (b : Bool) → b && false ≡ false
+and-false = all₁ (λ b. b && false) (λ b. false) tt
+
+pub and-swap : (a b : Bool) → a && b ≡ b && a
+and-swap = all₂ (λ a b. a && b) (λ a b. b && a) tt
+
+pub not-not : (b : Bool) → not (not b) ≡ b
+not-not = all₁ (λ b. not (not b)) (λ b. b) tt
+
+-- an operation that keeps false, under a condition
+pub and-distrib : (op : Bool → Bool → Bool) → op false false ≡ false → (c a b : Bool) → c && op a b ≡ op (c && a) (c && b)
+and-distrib op keeps true a b = refl
+and-distrib op keeps false a b = sym keeps

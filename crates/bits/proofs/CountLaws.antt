@@ -10,10 +10,10 @@ use lib.IntN.{ℤ, pos, negsuc}
 use borrow.Author.Tests.{eqb-true, eqb-false, ne-eqb}
 use Rattle.bits.specs.Testbit.{isNegative, testbit, bitLength}
 use Rattle.bits.specs.Logical.{bitwiseNot}
-use Rattle.bits.specs.Field.{inField, permuteField}
+use Rattle.bits.specs.Field.{permuteField}
 use Rattle.bits.specs.Count.{onesBelow, ones, bitCount, firstTrue, firstBitSet}
 use Rattle.bits.proofs.TestbitLaws.{by-lt, testbit-ext, testbit-zero, testbit-above}
-use Rattle.bits.proofs.FieldLaws.{inField-lt, inField-ge, testbit-setField-in, testbit-setField-out, isNegative-permuteField}
+use Rattle.bits.proofs.FieldLaws.{inField-lt, inField-ge, testbit-permuteField-in, testbit-permuteField-out, isNegative-permuteField}
 use Rattle.bits.proofs.FieldAlgebra.{permuteField-not}
 
 -- ---- the ones below a position
@@ -106,10 +106,6 @@ ones-onesBelow n k h =
     (λ i l. testbit-above (pos n) (bitLength (pos n) + i) (omega arith)))
     ∙ add-zero (ones n))
 
-pub bitCount-pos : (n : ℕ) → bitCount (pos n) ≡ pos (ones n)
-unfolding bitCount
-bitCount-pos n = refl
-
 pub bitCount-not : (x : ℤ) → bitCount (bitwiseNot x) ≡ bitwiseNot (bitCount x)
 unfolding bitCount bitwiseNot
 bitCount-not (pos n) = refl
@@ -122,16 +118,6 @@ bitCount-onesBelow (negsuc n) k e h = absurd (true≢false e)
 
 -- ---- a permutation of a field's bits keeps the count
 
-permuteField-in : (p : ℕ → ℕ) (x : ℤ) (start end i : ℕ) → i < end - start
-    → testbit (permuteField p x start end) (start + i) ≡ testbit x (start + p i)
-unfolding permuteField
-permuteField-in p x start end = testbit-setField-in x start end (λ j. testbit x (start + p j))
-
-permuteField-out : (p : ℕ → ℕ) (x : ℤ) (start end i : ℕ) → inField start end i ≡ false
-    → testbit (permuteField p x start end) i ≡ testbit x i
-unfolding permuteField
-permuteField-out p x start end = testbit-setField-out x start end (λ j. testbit x (start + p j))
-
 onesBelow-split-three : (a b c : ℕ) (f : ℕ → Bool)
     → onesBelow (a + (b + c)) f ≡ onesBelow a f + (onesBelow b (λ i. f (a + i)) + onesBelow c (λ i. f (a + (b + i))))
 onesBelow-split-three a b c f = onesBelow-split a (b + c) f ∙ ap (λ (n : ℕ). onesBelow a f + n) (onesBelow-split b c (λ i. f (a + i)))
@@ -141,10 +127,10 @@ onesBelow-permuteField : {p q : ℕ → ℕ} (x : ℤ) (start end k : ℕ) → P
     ≡ onesBelow (start + (end - start + k)) (λ i. testbit x i)
 onesBelow-permuteField {p} x start end k c =
     onesBelow-split-three start (end - start) k (λ i. testbit (permuteField p x start end) i)
-    ∙ ap₂ (λ (a b : ℕ). a + b) (onesBelow-ext start _ _ (λ i h. permuteField-out p x start end i (inField-lt start end i h)))
+    ∙ ap₂ (λ (a b : ℕ). a + b) (onesBelow-ext start _ _ (λ i h. testbit-permuteField-out p x start end i (inField-lt start end i h)))
     (ap₂ (λ (a b : ℕ). a + b)
-    (onesBelow-ext (end - start) _ _ (permuteField-in p x start end) ∙ onesBelow-permute (λ i. testbit x (start + i)) c)
-    (onesBelow-ext k _ _ (λ i h. permuteField-out p x start end (start + (end - start + i)) (inField-ge start end _ (omega arith)))))
+    (onesBelow-ext (end - start) _ _ (testbit-permuteField-in p x start end) ∙ onesBelow-permute (λ i. testbit x (start + i)) c)
+    (onesBelow-ext k _ _ (λ i h. testbit-permuteField-out p x start end (start + (end - start + i)) (inField-ge start end _ (omega arith)))))
     ∙ sym (onesBelow-split-three start (end - start) k (λ i. testbit x i))
 
 bitCount-permuteField-pos : {p q : ℕ → ℕ} (n start end : ℕ) → Permutes (end - start) p q

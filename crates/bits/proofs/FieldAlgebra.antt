@@ -1,16 +1,17 @@
 -- The algebra of fields: get and put, distribution over the logical operations, permutations of a field composed. Assumes nothing.
 use mathlib.Core.Path.{_≡_, refl, sym, _∙_, ap, ap₂}
 use mathlib.Core.Bool.{Bool, true, false, not, cond, _&&_}
-use Prim.Native.Nat.{ℕ, suc, _+_, _-_, _<_}
+use Prim.Native.Nat.{ℕ, suc, _+_, _-_, _≤_, _<_}
 use native.Mathlib.Omega.{arith}
 use lib.Dec.{ltb}
-use lib.IntN.{ℤ}
+use lib.IntN.{ℤ, pos}
 use borrow.Author.Tests.{lt-ltb}
-use Rattle.bits.specs.Testbit.{testbit, fill}
+use Rattle.bits.specs.Testbit.{testbit, ofBits}
 use Rattle.bits.specs.Logical.{bitwiseNot, bitwise}
 use Rattle.bits.specs.Field.{inField, bitField, setField, copyBitField, copyBit, permuteField}
-use Rattle.bits.proofs.TestbitLaws.{by-lt, testbit-ext, testbit-fill}
-use Rattle.bits.proofs.LogicalLaws.{testbit-not, testbit-bitwise}
+use Rattle.bits.proofs.Booleans.{and-distrib}
+use Rattle.bits.proofs.TestbitLaws.{by-lt, testbit-ext}
+use Rattle.bits.proofs.LogicalLaws.{testbit-bitwise, not-bitwise, distrib-not}
 use Rattle.bits.proofs.FieldLaws.{by-field, testbit-setField, testbit-setField-in, testbit-setField-out, testbit-bitField}
 
 -- ---- fields replaced: only the new bits inside the field count
@@ -35,18 +36,6 @@ setField-same x start end g into = testbit-ext λ i.
     (λ l u. into (i - start) (omega arith) ∙ (let e : start + (i - start) ≡ i = omega arith in ap (λ (m : ℕ). testbit x m) e))
     (λ o. refl)
 
-pub setField-not : (x : ℤ) (start end : ℕ) (g : ℕ → Bool)
-    → setField (bitwiseNot x) start end (λ j. not (g j)) ≡ bitwiseNot (setField x start end g)
-setField-not x start end g = testbit-ext λ i.
-    testbit-setField (bitwiseNot x) start end (λ j. not (g j)) i
-    ∙ ap (λ (b : Bool). cond (inField start end i) (not (g (i - start))) b) (testbit-not x i)
-    ∙ pick (inField start end i) (g (i - start)) (testbit x i)
-    ∙ sym (testbit-not (setField x start end g) i ∙ ap not (testbit-setField x start end g i))
-  where
-    pick : (c a b : Bool) → cond c (not a) (not b) ≡ not (cond c a b)
-    pick true a b = refl
-    pick false a b = refl
-
 pub setField-distrib-bitwise : (op : Bool → Bool → Bool) (x y : ℤ) (start end : ℕ) (g h : ℕ → Bool)
     → setField (bitwise op x y) start end (λ j. op (g j) (h j)) ≡ bitwise op (setField x start end g) (setField y start end h)
 setField-distrib-bitwise op x y start end g h = testbit-ext λ i.
@@ -59,6 +48,15 @@ setField-distrib-bitwise op x y start end g h = testbit-ext λ i.
     pick : (c a b d e : Bool) → cond c (op a b) (op d e) ≡ op (cond c a d) (cond c b e)
     pick true a b d e = refl
     pick false a b d e = refl
+
+-- an empty field has no bits to replace
+pub setField-empty : (x : ℤ) (start end : ℕ) (g : ℕ → Bool) → end ≤ start → setField x start end g ≡ x
+setField-empty x start end g h = setField-same x start end g (λ j l. absurd (omega arith))
+
+pub bitField-empty : (x : ℤ) (start end : ℕ) → end ≤ start → bitField x start end ≡ pos 0
+unfolding bitField ofBits
+bitField-empty x start end h =
+    let e : end - start ≡ 0 = omega arith in ap (λ (k : ℕ). ofBits k (λ j. testbit x (start + j)) (pos 0)) e
 
 -- ---- get and put
 
@@ -110,11 +108,10 @@ copyBitField-distrib-bitwise op x y start end u v =
 
 pub copyBitField-not : (x : ℤ) (start end : ℕ) (u : ℤ)
     → copyBitField (bitwiseNot x) start end (bitwiseNot u) ≡ bitwiseNot (copyBitField x start end u)
-unfolding copyBitField
 copyBitField-not x start end u =
-    setField-ext (bitwiseNot x) (bitwiseNot x) start end (λ j. testbit (bitwiseNot u) j) (λ j. not (testbit u j))
-    (λ i o. refl) (λ j h. testbit-not u j)
-    ∙ setField-not x start end (λ j. testbit u j)
+    ap₂ (λ (a b : ℤ). copyBitField a start end b) (not-bitwise x) (not-bitwise u)
+    ∙ copyBitField-distrib-bitwise (λ a b. not a) x x start end u u
+    ∙ sym (not-bitwise (copyBitField x start end u))
 
 -- a field is 0 above its size, so the operation must keep 0 there
 pub bitField-distrib-bitwise : (op : Bool → Bool → Bool) → op false false ≡ false → (x y : ℤ) (start end : ℕ)
@@ -122,13 +119,9 @@ pub bitField-distrib-bitwise : (op : Bool → Bool → Bool) → op false false 
 bitField-distrib-bitwise op keeps x y start end = testbit-ext λ j.
     testbit-bitField (bitwise op x y) start end j
     ∙ ap (λ (b : Bool). ltb j (end - start) && b) (testbit-bitwise op x y (start + j))
-    ∙ pick (ltb j (end - start)) (testbit x (start + j)) (testbit y (start + j))
+    ∙ and-distrib op keeps (ltb j (end - start)) (testbit x (start + j)) (testbit y (start + j))
     ∙ sym (testbit-bitwise op (bitField x start end) (bitField y start end) j
     ∙ ap₂ op (testbit-bitField x start end j) (testbit-bitField y start end j))
-  where
-    pick : (c a b : Bool) → c && op a b ≡ op (c && a) (c && b)
-    pick true a b = refl
-    pick false a b = sym keeps
 
 -- ---- permutations of a field
 
@@ -154,13 +147,6 @@ permuteField-compose p q x start end into =
     (testbit-setField-out x start end (λ j. testbit x (start + p j)))
     (λ j h. testbit-setField-in x start end (λ j. testbit x (start + p j)) (q j) (into j h))
 
-pub permuteField-not : (p : ℕ → ℕ) (x : ℤ) (start end : ℕ) → permuteField p (bitwiseNot x) start end ≡ bitwiseNot (permuteField p x start end)
-unfolding permuteField
-permuteField-not p x start end =
-    setField-ext (bitwiseNot x) (bitwiseNot x) start end (λ j. testbit (bitwiseNot x) (start + p j)) (λ j. not (testbit x (start + p j)))
-    (λ i o. refl) (λ j h. testbit-not x (start + p j))
-    ∙ setField-not x start end (λ j. testbit x (start + p j))
-
 pub permuteField-distrib-bitwise : (p : ℕ → ℕ) (op : Bool → Bool → Bool) (x y : ℤ) (start end : ℕ)
     → permuteField p (bitwise op x y) start end ≡ bitwise op (permuteField p x start end) (permuteField p y start end)
 unfolding permuteField
@@ -169,9 +155,5 @@ permuteField-distrib-bitwise p op x y start end =
     (λ j. op (testbit x (start + p j)) (testbit y (start + p j))) (λ i o. refl) (λ j h. testbit-bitwise op x y (start + p j))
     ∙ setField-distrib-bitwise op x y start end (λ j. testbit x (start + p j)) (λ j. testbit y (start + p j))
 
--- 0 and -1 stay as they are
-pub permuteField-fill : (p : ℕ → ℕ) (s : Bool) (start end : ℕ) → permuteField p (fill s) start end ≡ fill s
-unfolding permuteField
-permuteField-fill p s start end =
-    setField-same (fill s) start end (λ j. testbit (fill s) (start + p j))
-    (λ j h. testbit-fill s (start + p j) ∙ sym (testbit-fill s (start + j)))
+pub permuteField-not : (p : ℕ → ℕ) (x : ℤ) (start end : ℕ) → permuteField p (bitwiseNot x) start end ≡ bitwiseNot (permuteField p x start end)
+permuteField-not p x start end = distrib-not (λ y. permuteField p y start end) (λ op u v. permuteField-distrib-bitwise p op u v start end) x

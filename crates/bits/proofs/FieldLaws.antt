@@ -22,10 +22,9 @@ use Rattle.bits.specs.Field.{
   rotateBitField,
   reverseBitField,
 }
-use Rattle.bits.proofs.Booleans.{all₁}
+use Rattle.bits.proofs.Booleans.{and-false}
 use Rattle.bits.proofs.TestbitLaws.{
-  testbit-zero,
-  testbit-ofBits,
+  testbit-ofBits-zero,
   testbit-ofBits-shiftRight,
   isNegative-ofBits,
   isNegative-shiftRight,
@@ -44,9 +43,6 @@ inField-lt start end i h = ap (λ (b : Bool). b && ltb i end) (lt-leb start i h)
 pub inField-ge : (start end i : ℕ) → end ≤ i → inField start end i ≡ false
 unfolding inField
 inField-ge start end i h = ap (λ (b : Bool). leb start i && b) (le-ltb i end h) ∙ and-false (leb start i)
-  where
-    and-false : (b : Bool) → b && false ≡ false
-    and-false = all₁ (λ b. b && false) (λ b. false) tt
 
 -- a choice by the test whether i lies in the field, decided
 pub by-field : (P : Bool → Type 0) (start end i : ℕ)
@@ -58,6 +54,10 @@ by-field P start end i f g = go (leb start i) (ltb i end) refl refl
     go true true p q = subst P (sym (ap₂ _&&_ p q)) (f (leb-true start i p) (ltb-true i end q))
     go true false p q = subst P (sym (ap₂ _&&_ p q)) (g (ap₂ _&&_ p q))
     go false b p q = subst P (sym (ap₂ _&&_ p q)) (g (ap₂ _&&_ p q))
+
+pub inField-positions : (start end i : ℕ) → inField start end i ≡ true → (start ≤ i) × (i < end)
+inField-positions start end i =
+    by-field (λ b. b ≡ true → (start ≤ i) × (i < end)) start end i (λ l u e. (l, u)) (λ o e. absurd (true≢false (sym e)))
 
 -- ---- bits
 
@@ -88,12 +88,7 @@ testbit-setField-out x start end g i o =
 
 pub testbit-bitField : (x : ℤ) (start end j : ℕ) → testbit (bitField x start end) j ≡ ltb j (end - start) && testbit x (start + j)
 unfolding bitField
-testbit-bitField x start end j =
-    testbit-ofBits (end - start) (λ j. testbit x (start + j)) (pos 0) j ∙ pick (ltb j (end - start))
-  where
-    pick : (b : Bool) → cond b (testbit x (start + j)) (testbit (pos 0) (j - (end - start))) ≡ b && testbit x (start + j)
-    pick true = refl
-    pick false = testbit-zero (j - (end - start))
+testbit-bitField x start end = testbit-ofBits-zero (end - start) (λ j. testbit x (start + j))
 
 pub testbit-copyBitField : (x : ℤ) (start end : ℕ) (y : ℤ) (i : ℕ)
     → testbit (copyBitField x start end y) i ≡ cond (inField start end i) (testbit y (i - start)) (testbit x i)
@@ -119,6 +114,16 @@ pub testbit-permuteField : (p : ℕ → ℕ) (x : ℤ) (start end i : ℕ)
 unfolding permuteField
 testbit-permuteField p x start end = testbit-setField x start end (λ j. testbit x (start + p j))
 
+pub testbit-permuteField-in : (p : ℕ → ℕ) (x : ℤ) (start end j : ℕ) → j < end - start
+    → testbit (permuteField p x start end) (start + j) ≡ testbit x (start + p j)
+unfolding permuteField
+testbit-permuteField-in p x start end = testbit-setField-in x start end (λ j. testbit x (start + p j))
+
+pub testbit-permuteField-out : (p : ℕ → ℕ) (x : ℤ) (start end i : ℕ) → inField start end i ≡ false
+    → testbit (permuteField p x start end) i ≡ testbit x i
+unfolding permuteField
+testbit-permuteField-out p x start end = testbit-setField-out x start end (λ j. testbit x (start + p j))
+
 -- 01: result bit i of the field is bit start + ((i - start - c) mod size) of x
 pub testbit-rotateBitField : (x : ℤ) (start end : ℕ) (c : ℤ) (i : ℕ)
     → testbit (rotateBitField x start end c) i
@@ -129,8 +134,8 @@ testbit-rotateBitField x start end c = testbit-permuteField (rotateIndex (end - 
 -- the same, counted from the field's start
 pub testbit-rotateBitField-in : (x : ℤ) (start end : ℕ) (c : ℤ) (j : ℕ) → j < end - start
     → testbit (rotateBitField x start end c) (start + j) ≡ testbit x (start + modℕ (pos j -ℤ c) (end - start))
-unfolding rotateBitField permuteField rotateIndex
-testbit-rotateBitField-in x start end c = testbit-setField-in x start end (λ j. testbit x (start + rotateIndex (end - start) c j))
+unfolding rotateBitField rotateIndex
+testbit-rotateBitField-in x start end c = testbit-permuteField-in (rotateIndex (end - start) c) x start end
 
 -- 01: result bit i of the field is bit start + end - 1 - i of x
 pub testbit-reverseBitField : (x : ℤ) (start end i : ℕ)

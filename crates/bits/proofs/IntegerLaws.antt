@@ -2,7 +2,7 @@
 use mathlib.Core.Path.{_≡_, refl, sym, _∙_, ap, ap₂, subst}
 use mathlib.Core.Logic.{_≢_}
 use mathlib.Core.Bool.{Bool, true, cond}
-use Prim.Native.Nat.{ℕ, zero, suc, _-_, _≤_, _<_}
+use Prim.Native.Nat.{ℕ, zero, suc, _+_, _-_, _≤_, _<_}
 use native.Mathlib.Omega.{arith}
 use lib.Dec.{T, leb·zero, leb·suc-zero, leb·suc-suc}
 use lib.IntN.{
@@ -72,6 +72,10 @@ subℕ-ge a b h = ap (λ (t : Bool). cond t (negsuc (b - suc a)) (pos (a - b))) 
 pub pos-sub-lt : (a b : ℕ) → a < b → pos a -ℤ pos b ≡ negsuc (b - suc a)
 pos-sub-lt a zero h = absurd (omega arith)
 pos-sub-lt a (suc b) h = subℕ-lt a (suc b) h
+
+pub pos-sub-ge : (a b : ℕ) → b ≤ a → pos a -ℤ pos b ≡ pos (a - b)
+pos-sub-ge a zero h = let e : a + 0 ≡ a - 0 = omega arith in ap pos e
+pos-sub-ge a (suc b) h = subℕ-ge a (suc b) h
 
 pub natAbs-pos : (y : ℤ) → y ≢ pos 0 → 0 < natAbs y
 natAbs-pos (pos zero) h = absurd (h refl)

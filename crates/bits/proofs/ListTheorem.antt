@@ -11,7 +11,7 @@ use lib.Dec.{eqb, lt→ltb}
 use lib.IntN.{ℤ, pos, negℤ, natAbs, _+ℤ_, _-ℤ_, +ℤ-invr, +ℤ-invl}
 use lib.Signed.{_≤ℤ_, _<ℤ_, leZ-yes, ltZ-yes}
 use borrow.Author.Tests.{eq-eqb, ne-eqb}
-use Rattle.bits.specs.Testbit.{isNegative, testbit, fill}
+use Rattle.bits.specs.Testbit.{isNegative, testbit}
 use Rattle.bits.specs.Logical.{bitwiseNot, bitwise, bitwiseAll}
 use Rattle.bits.specs.Division.{modℕ, «mod»}
 use Rattle.bits.specs.Field.{inField, permuteField, rotateIndex, reverseIndex, rotateBitField, reverseBitField}
@@ -29,12 +29,13 @@ use Rattle.bits.specs.FieldList.{
   oddReversals,
 }
 use Rattle.bits.proofs.Booleans.{all₁, all₃}
+use Rattle.bits.proofs.LogicalLaws.{distrib-not, distrib-fill}
 use Rattle.bits.proofs.ArgumentLaws.{all-map}
 use Rattle.bits.proofs.ShiftLaws.{testbit-pow}
 use Rattle.bits.proofs.ModLaws.{modℕ-self, modℕ-inj}
 use Rattle.bits.proofs.DivisionLaws.{mod-bounds}
-use Rattle.bits.proofs.FieldLaws.{testbit-setField-out, testbit-rotateBitField-in, isNegative-permuteField}
-use Rattle.bits.proofs.FieldAlgebra.{permuteField-not, permuteField-distrib-bitwise, permuteField-fill}
+use Rattle.bits.proofs.FieldLaws.{testbit-permuteField-out, testbit-rotateBitField-in, isNegative-permuteField}
+use Rattle.bits.proofs.FieldAlgebra.{permuteField-distrib-bitwise}
 use Rattle.bits.proofs.RotateLaws.{
   rotateIndex-lt,
   rotateIndex-zero,
@@ -87,19 +88,19 @@ keeps done start end f each (call ∷ calls) x =
     one true = each call x
     one false = refl
 
--- an operation that each call distributes over
-over : (done : FieldCall → Bool) (start end : ℕ) (B : ℤ → ℤ → ℤ)
-    → ((call : FieldCall) (x y : ℤ) → runCall start end call (B x y) ≡ B (runCall start end call x) (runCall start end call y))
+-- a Boolean operation, over which each call distributes
+over : (done : FieldCall → Bool) (start end : ℕ) (op : Bool → Bool → Bool)
+    → ((call : FieldCall) (x y : ℤ) → runCall start end call (bitwise op x y) ≡ bitwise op (runCall start end call x) (runCall start end call y))
     → (calls : List FieldCall) (x y : ℤ)
-    → runCalls done start end calls (B x y) ≡ B (runCalls done start end calls x) (runCalls done start end calls y)
+    → runCalls done start end calls (bitwise op x y) ≡ bitwise op (runCalls done start end calls x) (runCalls done start end calls y)
 unfolding runCalls
-over done start end B each [] x y = refl
-over done start end B each (call ∷ calls) x y =
+over done start end op each [] x y = refl
+over done start end op each (call ∷ calls) x y =
     ap (runCalls done start end calls) (one (done call))
-    ∙ over done start end B each calls (cond (done call) (runCall start end call x) x) (cond (done call) (runCall start end call y) y)
+    ∙ over done start end op each calls (cond (done call) (runCall start end call x) x) (cond (done call) (runCall start end call y) y)
   where
-    one : (b : Bool)
-        → cond b (runCall start end call (B x y)) (B x y) ≡ B (cond b (runCall start end call x) x) (cond b (runCall start end call y) y)
+    one : (b : Bool) → cond b (runCall start end call (bitwise op x y)) (bitwise op x y)
+        ≡ bitwise op (cond b (runCall start end call x) x) (cond b (runCall start end call y) y)
     one true = each call x y
     one false = refl
 
@@ -147,16 +148,9 @@ module _ (start end : ℕ) where
       ap isNegative (runCall-permutes start end call x) ∙ isNegative-permuteField (indexMap (end - start) call) x start end
 
   call-outside : (i : ℕ) → inField start end i ≡ false → (call : FieldCall) (x : ℤ) → testbit (runCall start end call x) i ≡ testbit x i
-  unfolding permuteField
   call-outside i o call x =
       ap (λ (y : ℤ). testbit y i) (runCall-permutes start end call x)
-      ∙ testbit-setField-out x start end (λ j. testbit x (start + indexMap (end - start) call j)) i o
-
-  call-not : (call : FieldCall) (x y : ℤ) → runCall start end call (bitwiseNot x) ≡ bitwiseNot (runCall start end call x)
-  call-not call x y =
-      runCall-permutes start end call (bitwiseNot x)
-      ∙ permuteField-not (indexMap (end - start) call) x start end
-      ∙ ap bitwiseNot (sym (runCall-permutes start end call x))
+      ∙ testbit-permuteField-out (indexMap (end - start) call) x start end i o
 
   call-bitwise : (op : Bool → Bool → Bool) (call : FieldCall) (x y : ℤ)
       → runCall start end call (bitwise op x y) ≡ bitwise op (runCall start end call x) (runCall start end call y)
@@ -164,9 +158,6 @@ module _ (start end : ℕ) where
       runCall-permutes start end call (bitwise op x y)
       ∙ permuteField-distrib-bitwise (indexMap (end - start) call) op x y start end
       ∙ sym (ap₂ (bitwise op) (runCall-permutes start end call x) (runCall-permutes start end call y))
-
-  call-fill : (e : Bool) (call : FieldCall) (x y : ℤ) → runCall start end call (fill e) ≡ fill e
-  call-fill e call x y = runCall-permutes start end call (fill e) ∙ permuteField-fill (indexMap (end - start) call) e start end
 
 -- ---- the end number
 
@@ -285,10 +276,13 @@ list-theorem done start end h = record {
   bit-count = keeps done start end bitCount (call-bitCount start end);
   sign = keeps done start end isNegative (call-sign start end);
   outside = λ calls x i o. keeps done start end (λ (y : ℤ). testbit y i) (call-outside start end i o) calls x;
-  commutes-not = λ calls x. over done start end (λ x y. bitwiseNot x) (call-not start end) calls x x;
-  distributes = λ calls op. over done start end (bitwise op) (call-bitwise start end op) calls;
+  commutes-not = λ calls. distrib-not (runCalls done start end calls) (distrib calls);
+  distributes = distrib;
   distributes-all = λ calls op e.
-      all-map op e (runCalls done start end calls) (over done start end (λ x y. fill e) (call-fill start end e) calls (pos 0) (pos 0))
-      (over done start end (bitwise op) (call-bitwise start end op) calls);
+      all-map op e (runCalls done start end calls) (distrib-fill (runCalls done start end calls) (distrib calls) e) (distrib calls op);
   counts-differ = differ start end;
 }
+  where
+    distrib : (calls : List FieldCall) (op : Bool → Bool → Bool) (x y : ℤ)
+        → runCalls done start end calls (bitwise op x y) ≡ bitwise op (runCalls done start end calls x) (runCalls done start end calls y)
+    distrib calls op = over done start end op (call-bitwise start end op) calls

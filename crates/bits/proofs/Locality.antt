@@ -19,7 +19,7 @@ use Rattle.bits.specs.Field.{
   FieldLocal,
 }
 use Rattle.bits.proofs.TestbitLaws.{testbit-ext}
-use Rattle.bits.proofs.FieldLaws.{by-field, inField-true, inField-lt, inField-ge, testbit-setField, testbit-setField-out}
+use Rattle.bits.proofs.FieldLaws.{inField-true, inField-positions, inField-lt, inField-ge, testbit-setField, testbit-setField-out}
 use Rattle.bits.proofs.RotateLaws.{rotateIndex-lt, reverseIndex-lt}
 
 -- ---- two operations on fields with no position in common
@@ -46,10 +46,6 @@ module _ {f g : ℤ → ℤ} (a b c d : ℕ) (F : FieldLocal a b f) (G : FieldLo
   fields-commute x = testbit-ext λ i. commute-bit x i (inField a b i) (inField c d i) refl refl
 
 -- ---- fields of which one ends at or before the other's start, and empty fields
-
-inField-positions : (start end i : ℕ) → inField start end i ≡ true → (start ≤ i) × (i < end)
-inField-positions start end i =
-    by-field (λ b. b ≡ true → (start ≤ i) × (i < end)) start end i (λ l u e. (l, u)) (λ o e. absurd (true≢false (sym e)))
 
 pub apart-fields : (a b c d : ℕ) → (b ≤ c) ⊎ (d ≤ a) → (i : ℕ) → inField a b i ≡ true → inField c d i ≡ false
 apart-fields a b c d (inl h) i e = inField-lt c d i (omega (arith, inField-positions a b i e))

@@ -1,4 +1,4 @@
--- Laws of the logical operations: their bits, and the algebra that follows bit by bit. Assumes nothing.
+-- Laws of the logical operations: their bits and signs, and what distributes over all of them. Assumes nothing.
 use mathlib.Core.Path.{_≡_, refl, sym, _∙_, ap, ap₂}
 use mathlib.Core.Bool.{Bool, true, false, not, cond, _&&_, _||_, xor}
 use Prim.Native.Nat.{ℕ, _-_, _/_, _^_, max}
@@ -6,13 +6,10 @@ use native.Mathlib.Omega.{arith}
 use lib.IntN.{ℤ, pos, negsuc}
 use Rattle.bits.specs.Testbit.{odd, isNegative, testbit, bitLength, fill}
 use Rattle.bits.specs.Logical.{bitwiseNot, bitwise, bitwiseAnd, bitwiseIor, bitwiseXor, bitwiseIf}
-use Rattle.bits.proofs.Booleans.{all₁}
-use Rattle.bits.proofs.TestbitLaws.{by-lt, testbit-above, testbit-fill, testbit-ofBits, isNegative-fill, isNegative-ofBits}
+use Rattle.bits.proofs.Booleans.{not-not}
+use Rattle.bits.proofs.TestbitLaws.{by-lt, testbit-ext, testbit-above, testbit-fill, testbit-ofBits, isNegative-fill, isNegative-ofBits}
 
 -- ---- bits
-
-pub not-not : (b : Bool) → not (not b) ≡ b
-not-not = all₁ (λ b. not (not b)) (λ b. b) tt
 
 pub testbit-not : (x : ℤ) (i : ℕ) → testbit (bitwiseNot x) i ≡ not (testbit x i)
 unfolding testbit bitwiseNot
@@ -65,3 +62,21 @@ testbit-if x y z i =
     choice true true c = refl
     choice true false c = refl
     choice false b c = refl
+
+-- ---- not, 0 and -1 are results of Boolean operations too
+
+pub not-bitwise : (x : ℤ) → bitwiseNot x ≡ bitwise (λ a b. not a) x x
+not-bitwise x = testbit-ext λ i. testbit-not x i ∙ sym (testbit-bitwise (λ a b. not a) x x i)
+
+fill-bitwise : (s : Bool) (x y : ℤ) → fill s ≡ bitwise (λ a b. s) x y
+fill-bitwise s x y = testbit-ext λ i. testbit-fill s i ∙ sym (testbit-bitwise (λ a b. s) x y i)
+
+-- so what distributes over every operation commutes with not, and keeps 0 and -1
+pub distrib-not : (F : ℤ → ℤ) → ((op : Bool → Bool → Bool) (x y : ℤ) → F (bitwise op x y) ≡ bitwise op (F x) (F y))
+    → (x : ℤ) → F (bitwiseNot x) ≡ bitwiseNot (F x)
+distrib-not F distrib x = ap F (not-bitwise x) ∙ distrib (λ a b. not a) x x ∙ sym (not-bitwise (F x))
+
+pub distrib-fill : (F : ℤ → ℤ) → ((op : Bool → Bool → Bool) (x y : ℤ) → F (bitwise op x y) ≡ bitwise op (F x) (F y))
+    → (s : Bool) → F (fill s) ≡ fill s
+distrib-fill F distrib s =
+    ap F (fill-bitwise s (fill s) (fill s)) ∙ distrib (λ a b. s) (fill s) (fill s) ∙ sym (fill-bitwise s (F (fill s)) (F (fill s)))

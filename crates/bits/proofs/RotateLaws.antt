@@ -2,12 +2,14 @@
 -- Assumes nothing.
 use mathlib.Core.Path.{_≡_, sym, _∙_, ap}
 use mathlib.Core.Bool.{Bool}
-use Prim.Native.Nat.{ℕ, suc, _-_, _<_}
+use Prim.Native.Nat.{ℕ, suc, _+_, _-_, _%_, _≤_, _<_}
+use native.Mathlib.Nat.{mod-lt}
 use native.Mathlib.Omega.{arith}
 use lib.IntN.{ℤ, pos, negsuc, negℤ, _+ℤ_, _-ℤ_, +ℤ-idr, +ℤ-assoc, +ℤ-comm, negℤ-+ℤ, negℤ-negℤ}
 use Rattle.bits.specs.Logical.{bitwiseNot, bitwise}
 use Rattle.bits.specs.Division.{modℕ, «mod»}
 use Rattle.bits.specs.Field.{rotateIndex, reverseIndex, rotateBitField, reverseBitField}
+use Rattle.bits.proofs.IntegerLaws.{pos-sub-ge}
 use Rattle.bits.proofs.ModLaws.{modℕ-lt, modℕ-small, modℕ-period, modℕ-sub-l, modℕ-sub-r, modℕ-not, not-add}
 use Rattle.bits.proofs.FieldAlgebra.{
   permuteField-ext,
@@ -47,6 +49,17 @@ module _ (size : ℕ) (h : 0 < size) where
       ∙ ap (λ (n : ℕ). rotateIndex size (pos n) j) (ap (λ (x : ℤ). modℕ x size) (+ℤ-comm (pos size) c) ∙ modℕ-period c size)
       ∙ rotateIndex-mod c j
 
+  -- on natural numbers
+  pub rotateIndex-nat : (c j : ℕ) → rotateIndex size (pos c) j ≡ (j + (size - c % size)) % size
+  unfolding rotateIndex modℕ
+  rotateIndex-nat c j =
+      sym (modℕ-sub-r (pos j) (pos c) size h)
+      ∙ sym (modℕ-period (pos j -ℤ pos (c % size)) size)
+      ∙ ap (λ (x : ℤ). modℕ x size)
+      (+ℤ-assoc (pos j) (negℤ (pos (c % size))) (pos size)
+      ∙ ap (λ (x : ℤ). pos j +ℤ x)
+      (+ℤ-comm (negℤ (pos (c % size))) (pos size) ∙ pos-sub-ge size (c % size) (omega (arith, mod-lt c h))))
+
   pub reverseIndex-lt : (j : ℕ) → reverseIndex size j < size
   unfolding reverseIndex
   reverseIndex-lt j = omega arith
@@ -73,6 +86,14 @@ module _ (size : ℕ) (h : 0 < size) where
 -- ---- the operations, on any field; on an empty one both leave their number
 
 module _ (start end : ℕ) where
+  pub rotate-empty : (x : ℤ) (c : ℤ) → end ≤ start → rotateBitField x start end c ≡ x
+  unfolding rotateBitField
+  rotate-empty x c h = permuteField-id (rotateIndex (end - start) c) x start end (λ j l. absurd (omega arith))
+
+  pub reverse-empty : (x : ℤ) → end ≤ start → reverseBitField x start end ≡ x
+  unfolding reverseBitField
+  reverse-empty x h = permuteField-id (reverseIndex (end - start)) x start end (λ j l. absurd (omega arith))
+
   pub rotate-zero : (x : ℤ) → rotateBitField x start end (pos 0) ≡ x
   unfolding rotateBitField
   rotate-zero x =

@@ -8,7 +8,7 @@ use native.Mathlib.Nat.{le-refl, zero-add, add-comm, mod-lt, mod-eq-of-lt, add-m
 use native.Mathlib.Omega.{arith}
 use lib.Arith.{half-le}
 use lib.Dec.{eqb, ltb, leb, eqb·suc-zero}
-use lib.IntN.{ℤ, pos, negsuc, negℤ, _+ℤ_, _-ℤ_, _*ℤ_, +ℤ-assoc, +ℤ-comm}
+use lib.IntN.{ℤ, pos, negsuc, _-ℤ_, _*ℤ_}
 use lib.Signed.{mag}
 use borrow.Author.Tests.{eqb-true, eq-eqb, lt-ltb, le-ltb, le-leb, lt-leb}
 use Rattle.bits.specs.Testbit.{odd, isNegative, testbit, halvings, bitLength, consBit, ofBits}
@@ -22,12 +22,13 @@ use Rattle.bits.specs.Field.{
   copyBitField,
   copyBit,
   permuteField,
+  rotateIndex,
   reverseIndex,
   rotateBitField,
   reverseBitField,
 }
 use Rattle.bits.specs.Count.{bitCount, firstTrue, firstBitSet}
-use Rattle.bits.proofs.Booleans.{all₁, all₂}
+use Rattle.bits.proofs.Booleans.{all₁, and-swap, and-false, not-not}
 use Rattle.bits.proofs.TestbitLaws.{
   by-lt,
   testbit-ext,
@@ -37,7 +38,7 @@ use Rattle.bits.proofs.TestbitLaws.{
   testbit-shiftRight,
 }
 use Rattle.bits.proofs.Algebra as Algebra
-use Rattle.bits.proofs.LogicalLaws.{not-not, testbit-not, testbit-and, testbit-ior, testbit-if}
+use Rattle.bits.proofs.LogicalLaws.{testbit-not, testbit-and, testbit-ior, testbit-if}
 use Rattle.bits.proofs.FieldLaws.{by-field, testbit-bitField, testbit-copyBitField, testbit-copyBit, testbit-rotateBitField}
 use Rattle.bits.proofs.ShiftLaws.{
   shiftLeft-zero,
@@ -47,15 +48,11 @@ use Rattle.bits.proofs.ShiftLaws.{
   testbit-shiftLeft-one,
   testbit-shiftLeft-ones,
 }
-use Rattle.bits.proofs.IntegerLaws.{subℕ-ge}
-use Rattle.bits.proofs.ModLaws.{modℕ-period, modℕ-sub-r}
+use Rattle.bits.proofs.RotateLaws.{rotateIndex-nat, rotate-empty}
 
 abbrev isZero : ℤ → Bool
 isZero (pos n) = eqb n 0
 isZero (negsuc n) = false
-
-and-comm : (a b : Bool) → a && b ≡ b && a
-and-comm = all₂ (λ a b. a && b) (λ a b. b && a) tt
 
 -- ---- bitwise-if: where x is 1 the bits of y, joined with those of z where x is 0
 abbrev bitwiseIfSample : ℤ → ℤ → ℤ → ℤ
@@ -141,7 +138,7 @@ sample-testbit x k = go (testbit x k) refl
     go true e = ap not (isZero-one (bitwiseAnd (shiftLeft (pos 1) k) x) k (one-bit x k k ∙ ap₂ _&&_ (eq-eqb k k refl) e))
     go false e = ap (λ (y : ℤ). not (isZero y)) (testbit-ext (λ i. one-bit x k i
         ∙ ap (λ (b : Bool). eqb i k && b) e
-        ∙ and-comm (eqb i k) false
+        ∙ and-false (eqb i k)
         ∙ sym (testbit-zero i)))
 
 pub sample-testbit-fx : (x : ℤ) (k : ℕ) → not (isZero (bitwiseAnd x (shiftLeft (pos 1) k))) ≡ testbit x k
@@ -176,7 +173,7 @@ pub sample-bitField : (x : ℤ) (start end : ℕ) → bitFieldSample x start end
 sample-bitField x start end = testbit-ext (λ j. testbit-shiftRight (bitwiseAnd x (bitwiseNot (shiftLeft (negsuc 0) end))) start j
     ∙ testbit-and x (bitwiseNot (shiftLeft (negsuc 0) end)) (start + j)
     ∙ ap (λ (b : Bool). testbit x (start + j) && b) (testbit-not-ones end (start + j) ∙ below j)
-    ∙ and-comm (testbit x (start + j)) (ltb j (end - start))
+    ∙ and-swap (testbit x (start + j)) (ltb j (end - start))
     ∙ sym (testbit-bitField x start end j))
   where
     below : (j : ℕ) → ltb (start + j) end ≡ ltb j (end - start)
@@ -242,20 +239,6 @@ rotateBitFieldSample n start end count =
     copyBitField n start end field)
     n
 
-minus : (m r : ℕ) → r ≤ m → pos m -ℤ pos r ≡ pos (m - r)
-minus m zero h = let e : m + 0 ≡ m - 0 = omega arith in ap pos e
-minus m (suc r) h = subℕ-ge m (suc r) h
-
--- (j - c) mod m, on natural numbers
-pub rotateIndex-nat : (j c m : ℕ) → 0 < m → modℕ (pos j -ℤ pos c) m ≡ (j + (m - c % m)) % m
-unfolding modℕ
-rotateIndex-nat j c m h =
-    sym (modℕ-sub-r (pos j) (pos c) m h)
-    ∙ sym (modℕ-period (pos j -ℤ pos (c % m)) m)
-    ∙ ap (λ (x : ℤ). modℕ x m)
-    (+ℤ-assoc (pos j) (negℤ (pos (c % m))) (pos m)
-    ∙ ap (λ (x : ℤ). pos j +ℤ x) (+ℤ-comm (negℤ (pos (c % m))) (pos m) ∙ minus m (c % m) (omega (arith, mod-lt c h))))
-
 index-lt : (m c j : ℕ) → c < m → j < c → m - c + j ≡ (j + (m - c)) % m
 index-lt m c j h k = add-comm (m - c) j ∙ sym (mod-eq-of-lt (omega arith))
 
@@ -290,19 +273,15 @@ rotated f y m bits c j h l =
 rotated-field : (n : ℤ) (start end count : ℕ) (field : ℤ) → 0 < end - start
     → ((j : ℕ) → j < end - start → testbit field j ≡ testbit n (start + (j + (end - start - count % (end - start))) % (end - start)))
     → copyBitField n start end field ≡ rotateBitField n start end (pos count)
+unfolding rotateIndex
 rotated-field n start end count field h bits = testbit-ext (λ i. testbit-copyBitField n start end field i
     ∙ by-field (λ b. cond b (testbit field (i - start)) (testbit n i) ≡ cond b (testbit n (source i)) (testbit n i)) start end i
-    (λ l u. bits (i - start) (omega arith) ∙ ap (λ (k : ℕ). testbit n (start + k)) (sym (rotateIndex-nat (i - start) count (end - start) h)))
+    (λ l u. bits (i - start) (omega arith) ∙ ap (λ (k : ℕ). testbit n (start + k)) (sym (rotateIndex-nat (end - start) h count (i - start))))
     (λ o. refl)
     ∙ sym (testbit-rotateBitField n start end (pos count) i))
   where
     source : ℕ → ℕ
     source i = start + modℕ (pos (i - start) -ℤ pos count) (end - start)
-
-rotate-empty : (n : ℤ) (start end : ℕ) (c : ℤ) → end ≤ start → rotateBitField n start end c ≡ n
-rotate-empty n start end c h = testbit-ext (λ i. testbit-rotateBitField n start end c i
-    ∙ by-field (λ b. cond b (testbit n (start + modℕ (pos (i - start) -ℤ c) (end - start))) (testbit n i) ≡ testbit n i) start end i
-    (λ l u. absurd (omega arith)) (λ o. refl))
 
 pub sample-rotateBitField : (n : ℤ) (start end count : ℕ) → rotateBitFieldSample n start end count ≡ rotateBitField n start end (pos count)
 unfolding modℕ
@@ -311,7 +290,7 @@ sample-rotateBitField n start end count =
     (λ h. rotated-field n start end count field h (λ j l.
     rotated (λ k. testbit n (start + k)) (bitField n start end) (end - start) (testbit-bitField n start end)
     (count % (end - start)) j (mod-lt count h) l))
-    (λ h. sym (rotate-empty n start end (pos count) (omega arith)))
+    (λ h. sym (rotate-empty start end n (pos count) (omega arith)))
   where
     field : ℤ
     field =

@@ -24,7 +24,7 @@ use borrow.Author.Tests.{le-ltb}
 use Rattle.bits.specs.Testbit.{isNegative, testbit, bitLength, fill, consBit, ofBits}
 use Rattle.bits.specs.Logical.{bitwiseNot, bitwise, bitwiseAnd}
 use Rattle.bits.specs.Shift.{floorDiv, shiftLeft, shiftRight, arithmeticShift}
-use Rattle.bits.proofs.Booleans.{all₁}
+use Rattle.bits.proofs.Booleans.{and-true, and-distrib}
 use Rattle.bits.proofs.TestbitLaws.{
   by-lt,
   testbit-ext,
@@ -132,9 +132,6 @@ testbit-shiftLeft-ones k i =
     testbit-shiftLeft (negsuc 0) k i
     ∙ ap (λ (b : Bool). not (ltb i k) && b) (testbit-fill true (i - k))
     ∙ and-true (not (ltb i k))
-  where
-    and-true : (b : Bool) → b && true ≡ b
-    and-true = all₁ (λ b. b && true) (λ b. b) tt
 
 -- ---- the one shift and the two
 
@@ -226,12 +223,8 @@ pub shiftLeft-distrib-bitwise : (op : Bool → Bool → Bool) (x y : ℤ) (k : �
     → shiftLeft (bitwise op x y) k ≡ bitwise op (shiftLeft x k) (shiftLeft y k)
 shiftLeft-distrib-bitwise op x y k o = testbit-ext (λ i. testbit-shiftLeft (bitwise op x y) k i
     ∙ ap (λ (b : Bool). not (ltb i k) && b) (testbit-bitwise op x y (i - k))
-    ∙ pick (ltb i k) (testbit x (i - k)) (testbit y (i - k))
+    ∙ and-distrib op o (not (ltb i k)) (testbit x (i - k)) (testbit y (i - k))
     ∙ sym (testbit-bitwise op (shiftLeft x k) (shiftLeft y k) i ∙ ap₂ op (testbit-shiftLeft x k i) (testbit-shiftLeft y k i)))
-  where
-    pick : (b c d : Bool) → not b && op c d ≡ op (not b && c) (not b && d)
-    pick true c d = sym o
-    pick false c d = refl
 
 -- ---- 0 and -1, and distances past the length
 

@@ -1,11 +1,11 @@
 -- Laws of the bits of an integer: what each builder's bits are, and that equal bits make equal integers. Assumes nothing.
 use mathlib.Core.Path.{_≡_, refl, sym, _∙_, ap, subst}
 use mathlib.Core.Logic.{_≢_}
-use mathlib.Core.Bool.{Bool, true, false, not, cond, true≢false}
+use mathlib.Core.Bool.{Bool, true, false, not, cond, _&&_, true≢false}
 use Prim.Native.Nat.{ℕ, zero, suc, _+_, _*_, _-_, _/_, _%_, _^_, _≤_, _<_}
 use native.Mathlib.Nat.{pow-suc, pow-succ', div-div-eq-div-mul, div-one, div-eq-of-lt, le-refl, lt-of-lt-of-le}
 use native.Mathlib.Omega.{arith}
-use lib.Arith.{half-le}
+use lib.Arith.{half-le, digits-div}
 use lib.Dec.{eqb, ltb}
 use lib.Pow.{pow-mono, pow-pos, shr-shr}
 use lib.IntN.{ℤ, pos, negsuc}
@@ -39,17 +39,14 @@ unfolding testbit consBit
 testbit-consBit-zero b (pos n) = ap odd (div-one (n * 2 + cond b 1 0)) ∙ odd-cons n b
 testbit-consBit-zero b (negsuc n) = ap (λ (m : ℕ). not (odd m)) (div-one (n * 2 + cond b 0 1)) ∙ odd-cons-not n b
 
-half-cons : (n c : ℕ) → c < 2 → (n * 2 + c) / 2 ≡ n
-half-cons n c h = omega arith
-
 pub cond-lt : (b : Bool) (c d : ℕ) → c < 2 → d < 2 → cond b c d < 2
 cond-lt true c d h k = h
 cond-lt false c d h k = k
 
 half-consBit : (b : Bool) (x : ℤ) → floorDiv (consBit b x) 2 ≡ x
 unfolding floorDiv consBit
-half-consBit b (pos n) = ap pos (half-cons n (cond b 1 0) (cond-lt b 1 0 (omega arith) (omega arith)))
-half-consBit b (negsuc n) = ap negsuc (half-cons n (cond b 0 1) (cond-lt b 0 1 (omega arith) (omega arith)))
+half-consBit b (pos n) = ap pos (digits-div n (cond-lt b 1 0 (omega arith) (omega arith)))
+half-consBit b (negsuc n) = ap negsuc (digits-div n (cond-lt b 0 1 (omega arith) (omega arith)))
 
 pub testbit-consBit-suc : (b : Bool) (x : ℤ) (i : ℕ) → testbit (consBit b x) (suc i) ≡ testbit x i
 testbit-consBit-suc b x i = testbit-half (consBit b x) i ∙ ap (λ (y : ℤ). testbit y i) (half-consBit b x)
@@ -91,6 +88,7 @@ testbit-ofBits-ge (suc k) f t (suc i) h =
     ∙ testbit-ofBits-ge k (λ i. f (suc i)) t i (omega arith)
     ∙ (let e : i - k ≡ suc i - suc k = omega arith in ap (λ (m : ℕ). testbit t m) e)
 
+-- a choice by the test i < k, decided
 pub by-lt : (P : Bool → Type 0) (i k : ℕ) → (i < k → P true) → (k ≤ i → P false) → P (ltb i k)
 by-lt P i k f g = go (ltb i k) refl
   where
@@ -101,6 +99,14 @@ by-lt P i k f g = go (ltb i k) refl
 pub testbit-ofBits : (k : ℕ) (f : ℕ → Bool) (t : ℤ) (i : ℕ) → testbit (ofBits k f t) i ≡ cond (ltb i k) (f i) (testbit t (i - k))
 testbit-ofBits k f t i =
     by-lt (λ b. testbit (ofBits k f t) i ≡ cond b (f i) (testbit t (i - k))) i k (testbit-ofBits-lt k f t i) (testbit-ofBits-ge k f t i)
+
+-- nothing above the given bits
+pub testbit-ofBits-zero : (k : ℕ) (f : ℕ → Bool) (i : ℕ) → testbit (ofBits k f (pos 0)) i ≡ ltb i k && f i
+testbit-ofBits-zero k f i = testbit-ofBits k f (pos 0) i ∙ pick (ltb i k)
+  where
+    pick : (b : Bool) → cond b (f i) (testbit (pos 0) (i - k)) ≡ b && f i
+    pick true = refl
+    pick false = testbit-zero (i - k)
 
 pub isNegative-ofBits : (k : ℕ) (f : ℕ → Bool) (t : ℤ) → isNegative (ofBits k f t) ≡ isNegative t
 unfolding ofBits

@@ -15,22 +15,20 @@ use Rattle.bits.specs.Logical.{bitwiseNot, bitwiseAnd}
 use Rattle.bits.specs.Shift.{floorDiv, shiftRight}
 use Rattle.bits.specs.Division.{modℕ, «mod», mod0}
 use Rattle.bits.specs.Field.{bitField}
-use Rattle.bits.proofs.Booleans.{all₁, all₂}
+use Rattle.bits.proofs.Booleans.{and-true, and-swap, not-not}
 use Rattle.bits.proofs.IntegerLaws.{pos-sub-lt}
 use Rattle.bits.proofs.TestbitLaws.{
   by-lt,
   cond-lt,
   testbit-half,
   testbit-ext,
-  testbit-zero,
   testbit-fill,
-  testbit-ofBits,
-  testbit-consBit-zero,
-  testbit-consBit-suc,
+  testbit-ofBits-zero,
+  ofBits-testbit,
   testbit-mag-lt,
   testbit-shiftRight,
 }
-use Rattle.bits.proofs.LogicalLaws.{not-not, testbit-not, testbit-and}
+use Rattle.bits.proofs.LogicalLaws.{testbit-not, testbit-and}
 use Rattle.bits.proofs.DivisionLaws.{div0-mod0-low, div0-mod0-high}
 use Rattle.bits.proofs.ModLaws.{negsuc-digits, modℕ-lt, modℕ-not}
 
@@ -44,11 +42,8 @@ consBit-value false (negsuc n) = sym (negsuc-digits n 2 0 (omega arith))
 
 -- an integer is its lowest bit and its half
 pub consBit-half : (x : ℤ) → consBit (testbit x 0) (floorDiv x 2) ≡ x
-consBit-half x = testbit-ext bits
-  where
-    bits : (i : ℕ) → testbit (consBit (testbit x 0) (floorDiv x 2)) i ≡ testbit x i
-    bits zero = testbit-consBit-zero (testbit x 0) (floorDiv x 2)
-    bits (suc i) = testbit-consBit-suc (testbit x 0) (floorDiv x 2) i ∙ sym (testbit-half x i)
+unfolding ofBits shiftRight
+consBit-half = ofBits-testbit 1
 
 -- ---- the low bits are the remainder by a power of two
 
@@ -77,12 +72,7 @@ ofBits-modℕ (suc k) x =
     ∙ ap pos (sym (modℕ-consBit (testbit x 0) (floorDiv x 2) k) ∙ ap (λ (y : ℤ). modℕ y (2 ^ suc k)) (consBit-half x))
 
 pub testbit-modℕ-pow : (x : ℤ) (k i : ℕ) → testbit (pos (modℕ x (2 ^ k))) i ≡ ltb i k && testbit x i
-testbit-modℕ-pow x k i =
-    ap (λ (y : ℤ). testbit y i) (sym (ofBits-modℕ k x)) ∙ testbit-ofBits k (λ i. testbit x i) (pos 0) i ∙ pick (ltb i k)
-  where
-    pick : (b : Bool) → cond b (testbit x i) (testbit (pos 0) (i - k)) ≡ b && testbit x i
-    pick true = refl
-    pick false = testbit-zero (i - k)
+testbit-modℕ-pow x k i = ap (λ (y : ℤ). testbit y i) (sym (ofBits-modℕ k x)) ∙ testbit-ofBits-zero k (λ i. testbit x i) i
 
 -- a mask of k ones
 pub testbit-mask : (k i : ℕ) → testbit (pos (2 ^ k - 1)) i ≡ ltb i k
@@ -92,16 +82,13 @@ testbit-mask k i =
     ∙ testbit-modℕ-pow (negsuc 0) k i
     ∙ ap (λ (b : Bool). ltb i k && b) (testbit-fill true i)
     ∙ and-true (ltb i k)
-  where
-    and-true : (b : Bool) → b && true ≡ b
-    and-true = all₁ (λ b. b && true) (λ b. b) tt
 
 pub and-mask : (x : ℤ) (k : ℕ) → bitwiseAnd x (pos (2 ^ k - 1)) ≡ «mod» x (pos (2 ^ k))
 unfolding «mod»
 and-mask x k = testbit-ext λ i.
     testbit-and x (pos (2 ^ k - 1)) i
     ∙ ap (λ (b : Bool). testbit x i && b) (testbit-mask k i)
-    ∙ all₂ (λ a b. a && b) (λ a b. b && a) tt (testbit x i) (ltb i k)
+    ∙ and-swap (testbit x i) (ltb i k)
     ∙ sym (testbit-modℕ-pow x k i)
 
 -- ---- a field as a number
@@ -125,7 +112,7 @@ isNegative-bitField x start end = ap isNegative (bitField-value x start end)
 -- ---- mod0 by 2^w: the integer that has the same low w bits and fits w
 
 module _ (w : ℕ) (x : ℤ) where
-  -- the low w bits of x, and the same of not x
+  -- at width w + 1: the low bits of x, and those of not x
   low : ℕ
   low = modℕ x (2 ^ suc w)
 
