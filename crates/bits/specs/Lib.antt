@@ -1,4 +1,5 @@
 pub mod Testbit
+pub mod Sign
 pub mod Logical
 pub mod Shift
 pub mod Division
