@@ -1,5 +1,6 @@
 pub mod Answers
 pub mod Domains
 pub mod Operations
+pub mod Steps
 pub mod Table
 pub mod Calls

@@ -8,6 +8,7 @@ ghost use Rattle.fixnum.specs.Domains.{isWidth};
 ghost use Rattle.fixnum.specs.Calls as calls;
 
 mod logical;
+mod loops;
 
 use words::sign::absolute_fits;
 use words::sign::from_absolute;

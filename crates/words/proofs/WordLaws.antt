@@ -20,6 +20,10 @@ use Rattle.bits.specs.Logical.{bitwiseNot}
 pub back : {x : ℤ} → SFits w64 x → toZ w64 (ofZ w64 x) ≡ x
 back {x} h = toZ-ofZ w64 x h
 
+-- from the bound itself, as an element of an array or a call's result has it
+pub back-word : (x : ℤ) → mag x < 2 ^ 63 → toZ w64 (ofZ w64 x) ≡ x
+back-word x h = toZ-ofZ w64 x (record { sfits = h })
+
 lt-zero : (x : ℤ) → ltZ x (pos 0) ≡ isNegative x
 unfolding isNegative
 lt-zero (pos n) = le-ltb n 0 (omega arith)

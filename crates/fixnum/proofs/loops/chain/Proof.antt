@@ -1,0 +1,101 @@
+-- `fixnum::loops::chain` meets its contract. The invariant: the answer is that for the arguments from i on. Assumes nothing.
+use Prim.Native.Nat.{_+_, _-_, _<_}
+use native.Mathlib.Omega.{arith}
+use mathlib.Core.Path.{_≡_, refl, sym, ap, _∙_}
+use mathlib.Core.Bool.{Bool, true, false, _&&_}
+use lib.ListN.{drop}
+use borrow.Author.Needs.{needs}
+use borrow.Author.Tests.{not-true, not-false}
+use Rattle.words.proofs.WordLaws.{back-word}
+use Rattle.fixnum.specs.Domains.{arg}
+use Rattle.fixnum.specs.Operations.{chain}
+use Rattle.fixnum.specs.Steps.{holds}
+use Rattle.fixnum.specs.Calls.{counted}
+use Rattle.fixnum.proofs.LoopLaws.{chain-step, chain-last}
+use Rattle.fixnum.proofs.loops.chain.Statement.{statement}
+use Rattle.fixnum.proofs.loops.chain.Tie as tie
+
+abbrev Inv-loop : tie.InvT-loop
+Inv-loop relation count args i₀ i =
+    (i < count) × (chain (holds relation) (counted args count) ≡ chain (holds relation) (drop i (counted args count)))
+
+abbrev μ-loop : tie.MeasureT-loop
+μ-loop relation count args i₀ i = count - i
+
+-- the answer, once the test of arguments i and i + 1 has said b
+turn : (c : tie.After-holds Inv-loop μ-loop) (b : Bool) → c .holds .result ≡ b
+    → chain (holds (c .before .before .before .before .before .args .relation)) (counted (c .before .before .before .before .before .args .t2) (c .before .before .before .before .before .args .count))
+    ≡ b && chain (holds (c .before .before .before .before .before .args .relation)) (drop (c .before .before .before .before .loop .i + 1) (counted (c .before .before .before .before .before .args .t2) (c .before .before .before .before .before .args .count)))
+unfolding arg
+turn c b e =
+    let a = c .before .before .before .before .before in
+    let i = c .before .before .before .before .loop .i in
+    let x = back-word (arg (a .args .t2) i) (c .before .before .holds-arg .given) in
+    let y = back-word (arg (a .args .t2) (i + 1)) (c .before .holds-arg2 .given) in
+    let test : holds (a .args .relation) (arg (a .args .t2) i) (arg (a .args .t2) (i + 1)) ≡ b =
+    sym (rw (x, y) at (c .holds .ensures)) ∙ e in
+    c .before .before .before .before .loop .inv .1
+    ∙ chain-step (a .args .t2) (a .args .count) (a .good .1 .0 .1 .0 .1) (a .pre .1) (holds (a .args .relation)) i (c .before .before .before .loop-test .taken)
+    ∙ ap (λ (t : Bool). t && chain (holds (a .args .relation)) (drop (i + 1) (counted (a .args .t2) (a .args .count)))) test
+
+loop-holds : tie.Need-loop-holds Inv-loop μ-loop
+loop-holds c = (omega arith, refl)
+
+add-loop : tie.Need-add-loop Inv-loop μ-loop
+add-loop c = omega arith
+
+mul-holds : tie.Need-mul-holds Inv-loop μ-loop
+mul-holds c = omega arith
+
+array-copy-out-holds : tie.Need-array-copy-out-holds Inv-loop μ-loop
+array-copy-out-holds c = omega arith
+
+add-holds : tie.Need-add-holds Inv-loop μ-loop
+add-holds c = omega arith
+
+mul-holds-2 : tie.Need-mul-holds-2 Inv-loop μ-loop
+mul-holds-2 c = omega arith
+
+array-copy-out-holds-2 : tie.Need-array-copy-out-holds-2 Inv-loop μ-loop
+array-copy-out-holds-2 c = omega arith
+
+holds-requires : tie.Need-holds-requires Inv-loop μ-loop
+holds-requires c κs = search needs
+
+returns : tie.Need-returns Inv-loop μ-loop
+returns c = sym (turn (c .before) false (not-true _ (c .if1 .taken)))
+
+add-i : tie.Need-add-i Inv-loop μ-loop
+add-i c = omega arith
+
+loop-less : tie.Need-loop-less Inv-loop μ-loop
+loop-less c = omega arith
+
+loop-again : tie.Need-loop-again Inv-loop μ-loop
+loop-again c = (omega arith, turn (c .before) true (not-false _ (c .if1 .left)))
+
+returns-2 : tie.Need-returns-2 Inv-loop μ-loop
+returns-2 c =
+    let a = c .before .before in
+    sym (c .before .loop .inv .1
+    ∙ chain-last (a .args .t2) (a .args .count) (a .good .1 .0 .1 .0 .1) (a .pre .1) (holds (a .args .relation)) (c .before .loop .i) (c .before .loop .inv .0) (c .loop-test .left))
+
+pub chain-spec : {M : Type 1} → statement M
+chain-spec =
+    tie.close
+    (tie.spec
+    Inv-loop
+    μ-loop
+    loop-holds
+    add-loop
+    mul-holds
+    array-copy-out-holds
+    add-holds
+    mul-holds-2
+    array-copy-out-holds-2
+    holds-requires
+    returns
+    add-i
+    loop-less
+    loop-again
+    returns-2)

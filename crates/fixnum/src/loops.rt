@@ -1,0 +1,66 @@
+// The loops over the arguments up to the count: whether each is a fixnum, whether each stands in a relation to the next, and a fold
+// from the left.
+ghost use mathlib.Core.Path.{_≡_};
+ghost use Prim.Native.Nat.{_≤_};
+ghost use Rattle.fixnum.specs.Domains.{isWidth};
+ghost use Rattle.fixnum.specs.Operations as operations;
+ghost use Rattle.fixnum.specs.Steps as steps;
+ghost use Rattle.fixnum.specs.Calls.{counted, allFixnums};
+ghost use mathlib.Core.Bool.{true};
+use words::sign::is_fixnum;
+
+pub enum Relation {
+    Equal,
+    Greater,
+    Less,
+    GreaterOrEqual,
+    LessOrEqual,
+}
+
+pub enum Fold {
+    Largest,
+    Smallest,
+    And,
+    Ior,
+    Xor,
+}
+
+fn holds(relation: Relation, x: i64, y: i64) -> bool
+    ensures { λ r. ⌜ r ≡ steps.holds relation x y ⌝ }
+{
+    match relation {
+        Relation::Equal => x == y,
+        Relation::Greater => x > y,
+        Relation::Less => x < y,
+        Relation::GreaterOrEqual => x >= y,
+        Relation::LessOrEqual => x <= y,
+    }
+}
+
+pub fn chain(relation: Relation, args: [i64; 4], count: u64) -> bool
+    requires { ⌜ (1 ≤ count) × (count ≤ 4) ⌝ }
+    ensures { λ r. ⌜ r ≡ operations.chain (steps.holds relation) (counted args count) ⌝ }
+{
+    let mut i: u64 = 0;
+    while i + 1 < count {
+        if !holds(relation, args[i as usize], args[(i + 1) as usize]) {
+            return false;
+        }
+        i += 1;
+    }
+    true
+}
+
+pub fn all_fixnums(width: u64, args: [i64; 4], count: u64) -> bool
+    requires { ⌜ (isWidth width ≡ true) × (count ≤ 4) ⌝ }
+    ensures { λ r. ⌜ r ≡ allFixnums width (counted args count) ⌝ }
+{
+    let mut i: u64 = 0;
+    while i < count {
+        if !is_fixnum(width, args[i as usize]) {
+            return false;
+        }
+        i += 1;
+    }
+    true
+}
