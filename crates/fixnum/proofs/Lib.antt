@@ -1,2 +1,3 @@
 pub mod CallLaws
+pub mod MeaningLaws
 pub mod Cases
