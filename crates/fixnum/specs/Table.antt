@@ -124,5 +124,8 @@ unfoldable pub isCode : ℕ → Bool
 isCode code = leb 1 code && leb code (length rows)
 
 -- for a number that is no code: a row that allows no count
+unfoldable pub noRow : Row
+noRow = row 1 0 free never (every (λ xs. pos 0))
+
 unfoldable pub rowOf : ℕ → Row
-rowOf code = getD rows (code - 1) (row 1 0 free never (every (λ xs. pos 0)))
+rowOf code = getD rows (code - 1) noRow

@@ -2,11 +2,14 @@
 ghost use mathlib.Core.Path.{_≡_};
 ghost use mathlib.Core.Bool.{true};
 ghost use Prim.Native.Nat.{_<_};
+ghost use lib.IntN.{pos};
 ghost use Rattle.bits.specs.Sign.{withSign};
 ghost use Rattle.fixnum.specs.Answers as answers;
 ghost use Rattle.fixnum.specs.Domains.{isWidth};
+ghost use Rattle.fixnum.specs.Operations.{truth};
 ghost use Rattle.fixnum.specs.Calls as calls;
 
+mod compare;
 mod logical;
 mod loops;
 
@@ -38,6 +41,13 @@ fn refuse(refusal: u64) -> Answer
         first: 0,
         second: 0,
     }
+}
+
+// 1 for yes, 0 for no.
+fn question(yes: bool) -> Answer
+    ensures { λ r. ⌜ r ≡ answers.done (truth yes) (pos 0) ⌝ }
+{
+    done(yes as i64, 0)
 }
 
 // The result with a sign and an absolute value, or the refusal for size where it is no fixnum.

@@ -1,8 +1,11 @@
 // Codes 25 to 29: not, and, ior, xor, if.
 ghost use mathlib.Core.Path.{_≡_};
+ghost use Prim.Native.Nat.{_≤_};
 ghost use Rattle.fixnum.specs.Calls.{Accepted, counted, outcome};
 use super::Answer;
 use super::done;
+use super::loops::Fold;
+use super::loops::fold_all;
 use words::logical::and;
 use words::logical::ior;
 
@@ -24,4 +27,17 @@ pub fn choose(width: u64, args: [i64; 4], count: u64) -> Answer
     let y = args[1];
     let z = args[2];
     done(ior(and(x, y), and(!x, z)), 0)
+}
+
+// fxand fxior fxxor
+pub fn combined(width: u64, code: u64, args: [i64; 4], count: u64) -> Answer
+    requires { ⌜ Accepted width code args count ⌝ }
+    requires { ⌜ (26 ≤ code) × (code ≤ 28) ⌝ }
+    ensures { λ r. ⌜ r ≡ outcome width code (counted args count) ⌝ }
+{
+    match code {
+        26 => done(fold_all(Fold::And, !0, args, count), 0),
+        27 => done(fold_all(Fold::Ior, 0, args, count), 0),
+        _ => done(fold_all(Fold::Xor, 0, args, count), 0),
+    }
 }

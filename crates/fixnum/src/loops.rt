@@ -7,6 +7,9 @@ ghost use Rattle.fixnum.specs.Operations as operations;
 ghost use Rattle.fixnum.specs.Steps as steps;
 ghost use Rattle.fixnum.specs.Calls.{counted, allFixnums};
 ghost use mathlib.Core.Bool.{true};
+use words::logical::and;
+use words::logical::ior;
+use words::logical::xor;
 use words::sign::is_fixnum;
 
 pub enum Relation {
@@ -63,4 +66,30 @@ pub fn all_fixnums(width: u64, args: [i64; 4], count: u64) -> bool
         i += 1;
     }
     true
+}
+
+fn combine(fold: Fold, x: i64, y: i64) -> i64
+    ensures { λ r. ⌜ r ≡ steps.step fold x y ⌝ }
+{
+    match fold {
+        Fold::Largest => if x < y { y } else { x },
+        Fold::Smallest => if y < x { y } else { x },
+        Fold::And => and(x, y),
+        Fold::Ior => ior(x, y),
+        Fold::Xor => xor(x, y),
+    }
+}
+
+// The fold of all arguments, from a first value on.
+pub fn fold_all(fold: Fold, first: i64, args: [i64; 4], count: u64) -> i64
+    requires { ⌜ count ≤ 4 ⌝ }
+    ensures { λ r. ⌜ r ≡ operations.foldFrom (steps.step fold) first (counted args count) ⌝ }
+{
+    let mut value = first;
+    let mut i: u64 = 0;
+    while i < count {
+        value = combine(fold, value, args[i as usize]);
+        i += 1;
+    }
+    value
 }

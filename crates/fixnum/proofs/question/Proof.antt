@@ -1,0 +1,29 @@
+-- `fixnum::question` meets its contract. Assumes nothing.
+use borrow.Author.Needs.{needs}
+use mathlib.Core.Path.{_≡_, refl, _∙_}
+use mathlib.Core.Bool.{Bool, true, false}
+use lib.IntN.{pos}
+use mir.Syntax.{w64}
+use mir.Val.{boolByte, toZ}
+use Rattle.fixnum.specs.Operations.{truth}
+use Rattle.fixnum.proofs.CallLaws.{done-cong}
+use Rattle.fixnum.proofs.question.Statement.{statement}
+use Rattle.fixnum.proofs.question.Tie as tie
+
+-- a bool as a number
+as-number : (b : Bool) → toZ w64 (boolByte b) ≡ truth b
+unfolding truth
+as-number true = refl
+as-number false = refl
+
+cast-done : tie.Need-cast-done
+cast-done c = search needs
+
+done-requires : tie.Need-done-requires
+done-requires c κs = search needs
+
+returns : tie.Need-returns
+returns c = c .done .ensures ∙ done-cong (as-number (c .before .args .yes)) refl
+
+pub question-spec : {M : Type 1} → statement M
+question-spec = tie.close (tie.spec cast-done done-requires returns)
