@@ -29,6 +29,13 @@ pub both-right : (a b : Bool) → a && b ≡ true → b ≡ true
 both-right true b h = h
 both-right false b h = let z : _≡_ {A = ℕ} 0 1 = cc in absurd (omega arith)
 
+-- what a test `a && b` answers, where a holds and where it does not
+pub and-second : (a b : Bool) → a ≡ true → b ≡ a && b
+and-second a b h = ap (λ (t : Bool). t && b) (sym h)
+
+pub and-first : (a b : Bool) → a ≡ false → a ≡ a && b
+and-first a b h = h ∙ ap (λ (t : Bool). t && b) (sym h)
+
 or-true : (b : Bool) → b || true ≡ true
 or-true true = refl
 or-true false = refl

@@ -1,14 +1,15 @@
 -- Rules that hold of every row of the table, each a computed test; and cases on the code. Assumes nothing.
 use Prim.Native.Nat.{ℕ, zero, suc, _+_, _-_, _≤_, _<_}
-use native.Mathlib.Nat.{le-trans}
+use native.Mathlib.Nat.{le-trans, le-of-suc-le-suc, not-suc-le-zero}
 use native.Mathlib.Omega.{arith}
 use mathlib.Core.Path.{_≡_, refl, sym, ap, _∙_, subst}
 use mathlib.Core.Bool.{Bool, true, false, _&&_}
-use mathlib.Core.List.{List, [], _∷_}
+use mathlib.Core.List.{List, [], _∷_, map}
 use lib.Dec.{leb, eqb}
-use lib.ListN.{getD}
+use lib.ListN.{getD, length}
 use borrow.Author.Tests.{leb-true, eqb-true, eqb-false}
-use Rattle.fixnum.specs.Table.{Row, rows, noRow, rowOf}
+use Rattle.fixnum.specs.Domains.{Domain}
+use Rattle.fixnum.specs.Table.{Row, rows, noRow, isCode, rowOf}
 use Rattle.fixnum.specs.Calls.{isCount}
 use Rattle.fixnum.proofs.CallLaws.{both-left, both-right, between}
 
@@ -33,6 +34,22 @@ at-most-four code count h =
     le-trans (between (rowOf code .least) count (rowOf code .most) h .1)
     (leb-true (rowOf code .most) 4 (of-row (λ r. leb (r .most) 4) refl refl code))
 
+pub code-bounds : (code : ℕ) → isCode code ≡ true → (1 ≤ code) × (code ≤ 41)
+unfolding isCode rows
+code-bounds code h = between 1 code 41 h
+
+getD-map : (f : Row → ℕ) (rs : List Row) (d : Row) (i e : ℕ) → i < length rs → getD (map f rs) i e ≡ f (getD rs i d)
+getD-map f [] d i e h = absurd (not-suc-le-zero h)
+getD-map f (r ∷ rs) d zero e h = refl
+getD-map f (r ∷ rs) d (suc i) e h = getD-map f rs d i e (le-of-suc-le-suc h)
+
+-- a column of numbers, as the code holds it
+pub column : (f : Row → ℕ) (ns : List ℕ) → ns ≡ map f rows → (code : ℕ) → isCode code ≡ true → getD ns (code - 1) 0 ≡ f (rowOf code)
+unfolding rowOf rows
+column f ns e code h =
+    let b = code-bounds code h in
+    ap (λ (l : List ℕ). getD l (code - 1) 0) e ∙ getD-map f rows noRow (code - 1) 0 (omega arith)
+
 -- cases on a code from a to a + k - 1
 abbrev Each : (ℕ → Type 0) → ℕ → ℕ → Type 0
 Each P a zero = Unit {0}
@@ -45,3 +62,27 @@ from-to P a (suc k) e code h l = go (eqb code a) refl (λ d. from-to P (suc a) k
     go : (t : Bool) → eqb code a ≡ t → ((code ≡ a → ⊥) → P code) → P code
     go true q rest = subst P (sym (eqb-true code a q)) (e .0)
     go false q rest = rest (eqb-false code a q)
+
+abbrev allFrom : (ℕ → Bool) → ℕ → ℕ → Bool
+allFrom p a zero = true
+allFrom p a (suc k) = p a && allFrom p (suc a) k
+
+each-test : (p : ℕ → Bool) (a k : ℕ) → allFrom p a k ≡ true → Each (λ c. p c ≡ true) a k
+each-test p a zero h = tt
+each-test p a (suc k) h = (both-left (p a) (allFrom p (suc a) k) h, each-test p (suc a) k (both-right (p a) (allFrom p (suc a) k) h))
+
+no-domains : (ds : List Domain) → leb (length ds) 0 ≡ true → [] ≡ ds
+no-domains [] h = refl
+no-domains (d ∷ ds) h = absurd (not-suc-le-zero (leb-true (suc (length ds)) 0 h))
+
+-- codes whose arguments have no domain, by one computed test
+pub free : (a k : ℕ) → allFrom (λ c. leb (length (rowOf c .domains)) 0) a k ≡ true → (code : ℕ) → a ≤ code → code < a + k → [] ≡ rowOf code .domains
+free a k t code h l =
+    no-domains (rowOf code .domains) (from-to (λ c. leb (length (rowOf c .domains)) 0 ≡ true) a k (each-test (λ c. leb (length (rowOf c .domains)) 0) a k t) code h l)
+
+-- an operation has no more domains than arguments
+pub few-domains : (code count : ℕ) → isCount code count ≡ true → length (rowOf code .domains) ≤ count
+unfolding isCount rows noRow
+few-domains code count h =
+    le-trans (leb-true (length (rowOf code .domains)) (rowOf code .least) (of-row (λ r. leb (length (r .domains)) (r .least)) refl refl code))
+    (between (rowOf code .least) count (rowOf code .most) h .0)

@@ -9,6 +9,7 @@ ghost use Rattle.fixnum.specs.Domains.{isWidth};
 ghost use Rattle.fixnum.specs.Operations.{truth};
 ghost use Rattle.fixnum.specs.Calls as calls;
 
+mod checks;
 mod compare;
 mod logical;
 mod loops;

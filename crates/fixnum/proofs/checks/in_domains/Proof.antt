@@ -1,0 +1,261 @@
+-- `fixnum::checks::in_domains` meets its contract. Assumes nothing.
+use Prim.Native.Nat.{ℕ, _-_, _≤_}
+use native.Mathlib.Omega.{arith}
+use mathlib.Core.Path.{_≡_, refl, sym, ap, subst, _∙_}
+use mathlib.Core.Bool.{true}
+use mathlib.Core.List.{List}
+use lib.Dec.{ltb}
+use lib.IntN.{ℤ, pos, natAbs, negℤ, _-ℤ_}
+use lib.ListN.{length}
+use mir.Syntax.{w64}
+use mir.Val.{SFits, toZ, ofZ}
+use mir.ValLaws.{toZ-pos}
+use Rattle.words.proofs.WordLaws.{back-word}
+use Rattle.fixnum.specs.declared.checks.Shape.{Shape}
+use Rattle.fixnum.specs.declared.checks.Shape.the-variants.{Division, Bit, NewBit, Field, SignedShift, Shift, Rotation}
+use Rattle.fixnum.specs.Domains.{Domain, arg, isWidth, inDomains, inDomainsFrom}
+use Rattle.fixnum.specs.Table.{rowOf}
+use Rattle.fixnum.specs.Steps.{domainsOf}
+use Rattle.fixnum.specs.Calls.{counted, isCount}
+use Rattle.fixnum.proofs.CallLaws.{width-bounds}
+use Rattle.fixnum.proofs.TableLaws.{few-domains}
+use Rattle.fixnum.proofs.DomainLaws.{
+  division-domains,
+  bit-domains,
+  new-bit-domains,
+  field-domains,
+  signed-shift-domains,
+  shift-domains,
+  rotation-domains,
+  negated-last,
+}
+use borrow.Author.Needs.{needs}
+use Rattle.fixnum.proofs.checks.in_domains.Statement.{statement}
+use Rattle.fixnum.proofs.checks.in_domains.Tie as tie
+
+sub-last : tie.Need-sub-last
+sub-last c = let b = width-bounds (c .args .width) (c .pre .0) in omega arith
+
+cast-last : tie.Need-cast-last
+cast-last c = let b = width-bounds (c .args .width) (c .pre .0) in record { sfits = omega arith }
+
+shape-of-requires : tie.Need-shape-of-requires
+shape-of-requires c κs = search needs
+
+enum-told : tie.Need-enum-told
+enum-told c = search needs
+
+enum-told-2 : tie.Need-enum-told-2
+enum-told-2 c = search needs
+
+array-copy-out-absolute : tie.Need-array-copy-out-absolute
+array-copy-out-absolute c = search needs
+
+absolute-requires : tie.Need-absolute-requires
+absolute-requires c κs = search needs
+
+enum-told-3 : tie.Need-enum-told-3
+enum-told-3 c = search needs
+
+array-copy-out-within : tie.Need-array-copy-out-within
+array-copy-out-within c = search needs
+
+within-requires : tie.Need-within-requires
+within-requires c κs = search needs
+
+enum-told-4 : tie.Need-enum-told-4
+enum-told-4 c = search needs
+
+array-copy-out-both-within : tie.Need-array-copy-out-both-within
+array-copy-out-both-within c = search needs
+
+array-copy-out-both-within-2 : tie.Need-array-copy-out-both-within-2
+array-copy-out-both-within-2 c = search needs
+
+both-within-requires : tie.Need-both-within-requires
+both-within-requires c κs = search needs
+
+enum-told-5 : tie.Need-enum-told-5
+enum-told-5 c = search needs
+
+array-copy-out-both-within-3 : tie.Need-array-copy-out-both-within-3
+array-copy-out-both-within-3 c = search needs
+
+array-copy-out-both-within-4 : tie.Need-array-copy-out-both-within-4
+array-copy-out-both-within-4 c = search needs
+
+array-copy-out-both-within-5 : tie.Need-array-copy-out-both-within-5
+array-copy-out-both-within-5 c = search needs
+
+both-within-requires-2 : tie.Need-both-within-requires-2
+both-within-requires-2 c κs = search needs
+
+enum-told-6 : tie.Need-enum-told-6
+enum-told-6 c = search needs
+
+-- the last position, as a word
+last : (w : ℕ) → isWidth w ≡ true → toZ w64 (w - 1) ≡ pos (w - 1)
+last w h = let b = width-bounds w h in toZ-pos w64 (w - 1) (omega arith)
+
+sub-within : tie.Need-sub-within
+sub-within c =
+    let a = c .before .before .before in
+    rw (last (a .args .width) (a .pre .0)) (negated-last (a .args .width) (a .pre .0) .1)
+
+array-copy-out-within-2 : tie.Need-array-copy-out-within-2
+array-copy-out-within-2 c = search needs
+
+within-requires-2 : tie.Need-within-requires-2
+within-requires-2 c κs = search needs
+
+enum-told-7 : tie.Need-enum-told-7
+enum-told-7 c = search needs
+
+array-copy-out-within-3 : tie.Need-array-copy-out-within-3
+array-copy-out-within-3 c = search needs
+
+within-requires-3 : tie.Need-within-requires-3
+within-requires-3 c κs = search needs
+
+enum-told-8 : tie.Need-enum-told-8
+enum-told-8 c = search needs
+
+array-copy-out-is-rotation : tie.Need-array-copy-out-is-rotation
+array-copy-out-is-rotation c = search needs
+
+array-copy-out-is-rotation-2 : tie.Need-array-copy-out-is-rotation-2
+array-copy-out-is-rotation-2 c = search needs
+
+array-copy-out-is-rotation-3 : tie.Need-array-copy-out-is-rotation-3
+array-copy-out-is-rotation-3 c = search needs
+
+is-rotation-requires : tie.Need-is-rotation-requires
+is-rotation-requires c κs = search needs
+
+-- the domains of the shape that an arm of the match stands for are those of the code, and there are enough arguments
+arm : {r shape : Shape} (code w : ℕ) (ys : List ℤ) → domainsOf r ≡ rowOf code .domains → r ≡ shape
+    → inDomains (domainsOf shape) w ys ≡ inDomains (rowOf code .domains) w ys
+arm code w ys e q = ap (λ (ds : List Domain). inDomains ds w ys) (ap domainsOf (sym q) ∙ e)
+
+enough : {r shape : Shape} (code n : ℕ) → domainsOf r ≡ rowOf code .domains → r ≡ shape → isCount code n ≡ true → length (domainsOf shape) ≤ n
+enough {r} code n e q h = subst (λ (ds : List Domain). length ds ≤ n) (sym e ∙ ap domainsOf q) (few-domains code n h)
+
+returns : tie.Need-returns
+unfolding domainsOf inDomains inDomainsFrom
+returns c =
+    let a = c .before .before .before in
+    arm (a .args .code) (a .args .width) (counted (a .args .t3) (a .args .count)) (c .before .before .shape-of .ensures) (c .enum-told .given .1)
+
+returns-2 : tie.Need-returns-2
+unfolding domainsOf arg
+returns-2 c =
+    let a = c .before .before .before .before .before in
+    let s = c .before .before .before .before .shape-of .ensures in
+    let q = c .before .before .enum-told2 .given .1 in
+    ap (ltb 0) (c .absolute .ensures ∙ ap natAbs (back-word (arg (a .args .t3) 1) (c .before .absolute-arg .given)))
+    ∙ sym (division-domains (a .args .width) (a .args .t3) (a .args .count) (enough (a .args .code) (a .args .count) s q (a .pre .1 .1)))
+    ∙ arm (a .args .code) (a .args .width) (counted (a .args .t3) (a .args .count)) s q
+
+returns-3 : tie.Need-returns-3
+unfolding domainsOf arg
+returns-3 c =
+    let a = c .before .before .before .before .before in
+    let s = c .before .before .before .before .shape-of .ensures in
+    let q = c .before .before .enum-told3 .given .1 in
+    (rw (back-word (arg (a .args .t3) 1) (c .before .within-arg .given), last (a .args .width) (a .pre .0)) at (c .within .ensures))
+    ∙ sym (bit-domains (a .args .width) (a .args .t3) (a .args .count) (enough (a .args .code) (a .args .count) s q (a .pre .1 .1)))
+    ∙ arm (a .args .code) (a .args .width) (counted (a .args .t3) (a .args .count)) s q
+
+returns-4 : tie.Need-returns-4
+unfolding domainsOf arg
+returns-4 c =
+    let a = c .before .before .before .before .before .before in
+    let s = c .before .before .before .before .before .shape-of .ensures in
+    let q = c .before .before .before .enum-told4 .given .1 in
+    (rw (back-word (arg (a .args .t3) 1) (c .before .before .both-within-arg .given), last (a .args .width) (a .pre .0), back-word (arg (a .args .t3) 2) (c .before .both-within-arg2 .given)) at (c .both-within .ensures))
+    ∙ sym (new-bit-domains (a .args .width) (a .args .t3) (a .args .count) (enough (a .args .code) (a .args .count) s q (a .pre .1 .1)))
+    ∙ arm (a .args .code) (a .args .width) (counted (a .args .t3) (a .args .count)) s q
+
+returns-5 : tie.Need-returns-5
+unfolding domainsOf arg
+returns-5 c =
+    let a = c .before .before .before .before .before .before .before in
+    let s = c .before .before .before .before .before .before .shape-of .ensures in
+    let q = c .before .before .before .before .enum-told5 .given .1 in
+    (rw (back-word (arg (a .args .t3) 1) (c .before .before .before .both-within-arg3 .given), last (a .args .width) (a .pre .0), back-word (arg (a .args .t3) 2) (c .before .both-within-arg5 .given)) at (c .both-within2 .ensures))
+    ∙ sym (field-domains (a .args .width) (a .args .t3) (a .args .count) (enough (a .args .code) (a .args .count) s q (a .pre .1 .1)))
+    ∙ arm (a .args .code) (a .args .width) (counted (a .args .t3) (a .args .count)) s q
+
+returns-6 : tie.Need-returns-6
+unfolding domainsOf arg
+returns-6 c =
+    let a = c .before .before .before .before .before in
+    let s = c .before .before .before .before .shape-of .ensures in
+    let q = c .before .before .enum-told6 .given .1 in
+    (rw (last (a .args .width) (a .pre .0), negated-last (a .args .width) (a .pre .0) .0, back-word (arg (a .args .t3) 1) (c .before .within-arg2 .given)) at (c .within2 .ensures))
+    ∙ sym (signed-shift-domains (a .args .width) (a .args .t3) (a .args .count) (enough (a .args .code) (a .args .count) s q (a .pre .1 .1)))
+    ∙ arm (a .args .code) (a .args .width) (counted (a .args .t3) (a .args .count)) s q
+
+returns-7 : tie.Need-returns-7
+unfolding domainsOf arg
+returns-7 c =
+    let a = c .before .before .before .before .before in
+    let s = c .before .before .before .before .shape-of .ensures in
+    let q = c .before .before .enum-told7 .given .1 in
+    (rw (back-word (arg (a .args .t3) 1) (c .before .within-arg3 .given), last (a .args .width) (a .pre .0)) at (c .within3 .ensures))
+    ∙ sym (shift-domains (a .args .width) (a .args .t3) (a .args .count) (enough (a .args .code) (a .args .count) s q (a .pre .1 .1)))
+    ∙ arm (a .args .code) (a .args .width) (counted (a .args .t3) (a .args .count)) s q
+
+returns-8 : tie.Need-returns-8
+unfolding domainsOf arg
+returns-8 c =
+    let a = c .before .before .before .before .before .before .before in
+    let s = c .before .before .before .before .before .before .shape-of .ensures in
+    let q = c .before .before .before .before .enum-told8 .given .1 in
+    (rw (back-word (arg (a .args .t3) 1) (c .before .before .before .is-rotation-arg .given), back-word (arg (a .args .t3) 2) (c .before .before .is-rotation-arg2 .given), back-word (arg (a .args .t3) 3) (c .before .is-rotation-arg3 .given), last (a .args .width) (a .pre .0)) at (c .is-rotation .ensures))
+    ∙ sym (rotation-domains (a .args .width) (a .args .t3) (a .args .count) (enough (a .args .code) (a .args .count) s q (a .pre .1 .1)))
+    ∙ arm (a .args .code) (a .args .width) (counted (a .args .t3) (a .args .count)) s q
+
+pub in-domains-spec : {M : Type 1} → statement M
+in-domains-spec =
+    tie.close
+    (tie.spec
+    sub-last
+    cast-last
+    shape-of-requires
+    enum-told
+    enum-told-2
+    array-copy-out-absolute
+    absolute-requires
+    enum-told-3
+    array-copy-out-within
+    within-requires
+    enum-told-4
+    array-copy-out-both-within
+    array-copy-out-both-within-2
+    both-within-requires
+    enum-told-5
+    array-copy-out-both-within-3
+    array-copy-out-both-within-4
+    array-copy-out-both-within-5
+    both-within-requires-2
+    enum-told-6
+    sub-within
+    array-copy-out-within-2
+    within-requires-2
+    enum-told-7
+    array-copy-out-within-3
+    within-requires-3
+    enum-told-8
+    array-copy-out-is-rotation
+    array-copy-out-is-rotation-2
+    array-copy-out-is-rotation-3
+    is-rotation-requires
+    returns
+    returns-2
+    returns-3
+    returns-4
+    returns-5
+    returns-6
+    returns-7
+    returns-8)
