@@ -1,2 +1,3 @@
 pub mod WordLaws
 pub mod LogicalWords
+pub mod CountWords
