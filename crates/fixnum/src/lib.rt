@@ -7,6 +7,7 @@ ghost use Rattle.fixnum.specs.Answers as answers;
 ghost use Rattle.fixnum.specs.Domains.{isWidth};
 ghost use Rattle.fixnum.specs.Calls as calls;
 
+mod counts;
 mod logical;
 
 use words::sign::absolute_fits;
