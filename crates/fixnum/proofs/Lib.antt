@@ -1,3 +1,4 @@
 pub mod CallLaws
 pub mod MeaningLaws
+pub mod DivisionRows
 pub mod Cases
