@@ -57,7 +57,7 @@ sign-sub true m n h =
 
 -- ---- the quotient and the remainder, rounded down or up in absolute value
 
-abbrev pub quotient : Bool → ℤ → ℤ → ℤ
+abbrev quotient : Bool → ℤ → ℤ → ℤ
 quotient up x y = withSign (xor (isNegative x) (isNegative y)) (cond up (natAbs x / natAbs y + 1) (natAbs x / natAbs y))
 
 abbrev pub remainder : Bool → Bool → ℕ → ℕ → ℤ
@@ -103,7 +103,7 @@ division-equation up x y h =
 -- ---- the remainder that is allowed
 
 -- an allowed remainder is the remainder, and its quotient the quotient
-pub allowed-division : (nearest up : Bool) (x y : ℤ) → 0 < natAbs y
+allowed-division : (nearest up : Bool) (x y : ℤ) → 0 < natAbs y
     → Allowed nearest (natAbs y) (remainder up (isNegative x) (natAbs x % natAbs y) (natAbs y))
     → (quotient up x y ≡ cond nearest (div0 x y) (div x y))
     × (remainder up (isNegative x) (natAbs x % natAbs y) (natAbs y) ≡ cond nearest (mod0 x y) («mod» x y))
@@ -112,7 +112,7 @@ allowed-division true up x y h a = div0-mod0-unique x y (quotient up x y) _ (sym
 allowed-division false up x y h a = div-mod-unique x y (quotient up x y) _ (sym (division-equation up x y h)) (a .0) (a .1)
 
 -- its magnitude is below b
-pub allowed-mag : (nearest : Bool) (b : ℕ) (m : ℤ) → Allowed nearest b m → mag m < b
+allowed-mag : (nearest : Bool) (b : ℕ) (m : ℤ) → Allowed nearest b m → mag m < b
 unfolding Allowed
 allowed-mag true b (pos n) a = let h : 2 * n < b = ltb→lt (2 * n) b (a .1 .lt) in omega arith
 allowed-mag true b (negsuc n) a = go b (subst (λ (k : ℕ). T (leZ (negℤ (pos b)) (negℤ (pos k)))) e (a .0 .le))

@@ -17,7 +17,7 @@ pub struct Quotient {
     pub remainder: u64,
 }
 
-// Whether the quotient's absolute value is the one that is rounded up, for a dividend with a sign and a remainder r by b.
+// Whether the quotient is rounded up in absolute value, for a dividend with a sign and an absolute value that leaves r by b.
 fn rounds_up(nearest: bool, negative: bool, r: u64, b: u64) -> bool
     requires { ⌜ r < b ⌝ }
     ensures { λ up. ⌜ Allowed nearest b (cond up (withSign (not negative) (b - r)) (withSign negative r)) ⌝ }
@@ -29,6 +29,7 @@ fn rounds_up(nearest: bool, negative: bool, r: u64, b: u64) -> bool
     }
 }
 
+// div and mod of x by y, or div0 and mod0 where nearest.
 pub fn divide(nearest: bool, x: i64, y: i64) -> Quotient
     requires { ⌜ 0 < natAbs y ⌝ }
     ensures { λ q. ⌜ Divided nearest x y q ⌝ }
