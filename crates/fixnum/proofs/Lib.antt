@@ -4,4 +4,5 @@ pub mod TableLaws
 pub mod DomainLaws
 pub mod LoopLaws
 pub mod CompareLaws
+pub mod DivisionRows
 pub mod Cases

@@ -11,6 +11,8 @@ ghost use Rattle.fixnum.specs.Calls as calls;
 
 mod checks;
 mod compare;
+mod counts;
+mod division;
 mod logical;
 mod loops;
 

@@ -1,2 +1,4 @@
 pub mod WordLaws
 pub mod LogicalWords
+pub mod CountWords
+pub mod DivisionWords

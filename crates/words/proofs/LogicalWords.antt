@@ -56,7 +56,7 @@ pub record Digitwise (op : Bool → Bool → Bool) (F : ℕ → ℕ → ℕ) : T
   pub fits : (k a b : ℕ) → a < 2 ^ k → b < 2 ^ k → F a b < 2 ^ k
 
 -- the lowest digit is bit 0
-digit-testbit : (n : ℕ) → n % 2 ≡ cond (testbit (pos n) 0) 1 0
+pub digit-testbit : (n : ℕ) → n % 2 ≡ cond (testbit (pos n) 0) 1 0
 unfolding consBit floorDiv
 digit-testbit n =
     omega (arith, ap mag (consBit-half (pos n)), cond-lt (testbit (pos n) 0) 1 0 (omega arith) (omega arith))

@@ -1,4 +1,6 @@
 // Integer operations on 64-bit words, each with a contract in the meanings of `bits`. What a caller must show stands in
 // `requires`: these functions are for the crates above, which check arguments.
+pub mod count;
+pub mod division;
 pub mod logical;
 pub mod sign;

@@ -1,24 +1,15 @@
 -- `fixnum::logical::choose` meets its contract. Assumes nothing.
 use borrow.Author.Needs.{needs}
-use mathlib.Core.Path.{_≡_, sym, ap, ap₂, _∙_}
-use Prim.Native.Nat.{ℕ}
-use mathlib.Core.List.{List}
+use mathlib.Core.Path.{refl, sym, ap, ap₂, _∙_}
 use lib.IntN.{ℤ, pos}
 use Rattle.bits.specs.Logical.{bitwiseAnd, bitwiseIor, bitwiseIf}
 use Rattle.words.proofs.WordLaws.{back, not-word}
-use Rattle.fixnum.specs.Answers.{done, unless}
+use Rattle.fixnum.specs.Answers.{done}
 use Rattle.fixnum.specs.Domains.{arg}
 use Rattle.fixnum.specs.Table.{rows, rowOf}
-use Rattle.fixnum.specs.Calls.{Accepted, counted, isCount, sized, outcome}
-use Rattle.fixnum.proofs.MeaningLaws.{three-counted}
+use Rattle.fixnum.proofs.MeaningLaws.{three-outcome}
 use Rattle.fixnum.proofs.logical.choose.Statement.{statement}
 use Rattle.fixnum.proofs.logical.choose.Tie as tie
-
--- the answer to code 29
-meaning : (w : ℕ) (xs : List ℤ) (n : ℕ) → Accepted w 29 xs n
-    → outcome w 29 (counted xs n) ≡ done (bitwiseIf (arg xs 0) (arg xs 1) (arg xs 2)) (pos 0)
-unfolding outcome sized unless rowOf rows isCount
-meaning w xs n a = ap (λ (r : ℤ × ℤ). done (r .0) (r .1)) (three-counted bitwiseIf w xs n (a .arity))
 
 array-copy-out-x : tie.Need-array-copy-out-x
 array-copy-out-x c = search needs
@@ -42,7 +33,7 @@ done-requires : tie.Need-done-requires
 done-requires c κs = search needs
 
 returns : tie.Need-returns
-unfolding arg bitwiseIf
+unfolding rows rowOf arg bitwiseIf
 returns c =
     let z = c .before .before .before .before in
     c .done .ensures
@@ -56,7 +47,7 @@ returns c =
     (back (record { sfits = c .before .before .and2 .ok })
     ∙ c .before .before .and2 .ensures
     ∙ ap₂ bitwiseAnd (not-word (record { sfits = z .before .before .x .given })) (back (record { sfits = z .z .given }))))
-    ∙ sym (meaning _ _ _ (z .before .before .before .pre))
+    ∙ sym (three-outcome bitwiseIf refl (z .before .before .before .pre))
 
 pub choose-spec : {M : Type 1} → statement M
 choose-spec =

@@ -1,0 +1,78 @@
+-- The stages of an answer, passed one by one; and the answers to the codes that demand 3 speaks of. Assumes nothing.
+use Prim.Native.Nat.{ℕ, zero, zero-le, suc, _+_, _-_, _≤_, _<_, _^_}
+use native.Mathlib.Nat.{le-trans, lt-of-le-of-lt}
+use native.Mathlib.Omega.{arith}
+use mathlib.Core.Path.{_≡_, refl, sym, ap, _∙_, subst}
+use mathlib.Core.Bool.{Bool, true, false, cond, _&&_, _||_, xor}
+use mathlib.Core.List.{List, [], _∷_}
+use lib.Dec.{T, leb, ltb, eqb}
+use lib.IntN.{ℤ, pos, negsuc, natAbs, _-ℤ_}
+use lib.ListN.{length, take}
+use lib.Pow.{pow-pos}
+use lib.Signed.{leZ, ltZ}
+use borrow.Author.Tests.{le-leb, lt-ltb, leb-true, ltb-true}
+use Rattle.bits.specs.Testbit.{isNegative, testbit, fits}
+use Rattle.bits.specs.Logical.{bitwiseNot, bitwiseAnds, bitwiseIors, bitwiseXors}
+use Rattle.bits.specs.Count.{bitCount}
+use Rattle.bits.specs.Field.{rotateBitField, reverseBitField}
+use Rattle.bits.proofs.IntegerLaws.{pos-sub-ge}
+use Rattle.fixnum.specs.declared.Answer.{Answer}
+use Rattle.fixnum.specs.Answers.{done, refuse, unless}
+use Rattle.fixnum.specs.Domains.{isWidth, arg, within, accepts, inDomainsFrom, inDomains}
+use Rattle.fixnum.specs.Operations.{every, one, three, four}
+use Rattle.fixnum.specs.Table.{rows, isCode, rowOf}
+use Rattle.fixnum.specs.Calls.{Accepted, counted, isCount, allFixnums, sized, outcome, fixnumAnswer}
+use Rattle.bits.specs.FieldList.{rotate, reverse}
+use Rattle.fixnum.specs.Lists.{ask, isDone}
+use Rattle.fixnum.proofs.CallLaws.{width-bounds, both-left, both-right}
+
+-- a stage passed, and one that refuses
+pub passed : {t : Bool} (k : ℕ) (a : Answer) → t ≡ true → unless t k a ≡ a
+unfolding unless
+passed k a h = ap (λ (t : Bool). cond t a (refuse k)) h
+
+pub failed : {t : Bool} (k : ℕ) (a : Answer) → t ≡ false → unless t k a ≡ refuse k
+unfolding unless
+failed k a h = ap (λ (t : Bool). cond t a (refuse k)) h
+
+-- an answer whose first five stages pass
+pub accepted : (w code : ℕ) (xs : List ℤ) (n : ℕ) → isCode code ≡ true → Accepted w code xs n → fixnumAnswer w code xs n ≡ outcome w code (counted xs n)
+unfolding fixnumAnswer
+accepted w code xs n k a =
+    passed 1 _ (a .width) ∙ passed 2 _ k ∙ passed 3 _ (a .arity) ∙ passed 4 _ (a .fixnums) ∙ passed 5 _ (a .domains)
+
+-- ---- the field operations
+
+module _ (w : ℕ) (a : isWidth w ≡ true) where
+  -- a position is a fixnum
+  position-fits : (k : ℕ) → k ≤ w - 1 → fits w (pos k) ≡ true
+  unfolding fits
+  position-fits k h = lt-ltb k (2 ^ (w - 1)) (lt-of-le-of-lt h (lt-two-pow (w - 1)))
+
+  module _ (x : ℤ) (start end : ℕ) (f : fits w x ≡ true) (h : start ≤ end) (k : end ≤ w - 1) where
+    field-fixnums : (xs : List ℤ) → allFixnums w xs ≡ true → allFixnums w (x ∷ pos start ∷ pos end ∷ xs) ≡ true
+    unfolding allFixnums
+    field-fixnums xs g = rw (f, position-fits start (le-trans h k), position-fits end k) g
+
+    start-in : within (pos 0) (pos start) (pos (w - 1)) ≡ true
+    unfolding within
+    start-in = rw (le-leb 0 start zero-le, le-leb start (w - 1) (le-trans h k))
+
+    end-in : within (pos start) (pos end) (pos (w - 1)) ≡ true
+    unfolding within
+    end-in = rw (le-leb start end h, le-leb end (w - 1) k)
+
+    pub reverse-answer : ask w 41 (x ∷ pos start ∷ pos end ∷ []) ≡ done (reverseBitField x start end) (pos 0)
+    unfolding ask counted isCode isCount rowOf rows inDomains inDomainsFrom accepts arg outcome sized unless three allFixnums
+    reverse-answer =
+        accepted w 41 (x ∷ pos start ∷ pos end ∷ []) 3 refl
+        (record { width = a; arity = refl; fixnums = field-fixnums [] refl; domains = rw (start-in, end-in) })
+
+    -- code 40, by its count: the fourth argument's own two tests
+    module _ (c : ℤ) where
+      pub rotate-answer : isDone (end - start) (rotate c) ≡ true
+          → ask w 40 (x ∷ pos start ∷ pos end ∷ c ∷ []) ≡ done (rotateBitField x start end c) (pos 0)
+      unfolding ask counted isCode isCount rowOf rows inDomains inDomainsFrom accepts arg outcome sized unless four allFixnums isDone
+      rotate-answer d =
+          accepted w 40 (x ∷ pos start ∷ pos end ∷ c ∷ []) 4 refl
+          (record { width = a; arity = refl; fixnums = field-fixnums (c ∷ []) ?; domains = rw (start-in, end-in, pos-sub-ge end start h, d) })

@@ -1,0 +1,100 @@
+-- `fixnum::division::divide` meets its contract. Assumes nothing.
+use borrow.Author.Needs.{needs}
+use mathlib.Core.Path.{_≡_, refl, sym, ap₂, _∙_, subst}
+use Prim.Native.Nat.{_<_}
+use lib.IntN.{ℤ, pos, natAbs}
+use mir.Syntax.{w64}
+use mir.Val.{toZ, ofZ}
+use Rattle.bits.specs.Sign.{withSign}
+use Rattle.words.proofs.WordLaws.{back}
+use Rattle.fixnum.specs.Answers.{unless}
+use Rattle.fixnum.specs.Domains.{arg}
+use Rattle.fixnum.specs.Calls.{sized}
+use Rattle.fixnum.proofs.MeaningLaws.{pair-answer, divisor-positive}
+use Rattle.fixnum.proofs.DivisionRows.{quotientOf, remainderOf, division-row, quotient-row, remainder-row, both-row, both-code}
+use Rattle.fixnum.proofs.division.divide.Statement.{statement}
+use Rattle.fixnum.proofs.division.divide.Tie as tie
+
+-- the quotient and the remainder of the two arguments
+quotient-is : (c : tie.After-divide) → withSign (c .divide .result .negative) (c .divide .result .absolute)
+    ≡ quotientOf (c .before .before .before .args .code) (arg (c .before .before .before .args .t3) 0) (arg (c .before .before .before .args .t3) 1)
+unfolding arg
+quotient-is c =
+    c .divide .ensures .quotient
+    ∙ ap₂ (quotientOf (c .before .before .before .args .code)) (back (record { sfits = c .before .before .x .given }))
+    (back (record { sfits = c .before .y .given }))
+
+remainder-is : (c : tie.After-from-absolute) → toZ w64 (ofZ w64 (c .from-absolute .result))
+    ≡ remainderOf (c .before .before .before .before .args .code) (arg (c .before .before .before .before .args .t3) 0)
+    (arg (c .before .before .before .before .args .t3) 1)
+unfolding arg
+remainder-is c =
+    back (record { sfits = c .from-absolute .ok })
+    ∙ c .from-absolute .ensures
+    ∙ c .before .divide .ensures .rest
+    ∙ ap₂ (remainderOf (c .before .before .before .before .args .code)) (back (record { sfits = c .before .before .before .x .given }))
+    (back (record { sfits = c .before .before .y .given }))
+
+array-copy-out-x : tie.Need-array-copy-out-x
+array-copy-out-x c = search needs
+
+array-copy-out-y : tie.Need-array-copy-out-y
+array-copy-out-y c = search needs
+
+divide-requires : tie.Need-divide-requires
+unfolding arg
+divide-requires c κs =
+    let a = c .before .before in
+    subst (λ (y : ℤ). 0 < natAbs y) {x = arg (a .args .t3) 1} (sym (back (record { sfits = c .y .given })))
+    (divisor-positive (division-row (a .args .code) (a .pre .1)) (a .pre .0))
+
+from-absolute-requires : tie.Need-from-absolute-requires
+from-absolute-requires c κs = search needs
+
+sized-requires : tie.Need-sized-requires
+sized-requires c κs = search needs
+
+done-requires : tie.Need-done-requires
+done-requires c κs = search needs
+
+sized-requires-2 : tie.Need-sized-requires-2
+sized-requires-2 c κs = search needs
+
+returns : tie.Need-returns
+returns c =
+    let m = c .before .before in
+    let a = m .before .before .before .before in
+    pair-answer (quotientOf (a .args .code)) (λ x y. pos 0) (quotient-row (c .before .match .keys1)) (a .pre .0)
+    (c .sized .ensures) (quotient-is (m .before)) refl
+
+returns-2 : tie.Need-returns-2
+unfolding sized unless
+returns-2 c =
+    let m = c .before .before in
+    let a = m .before .before .before .before in
+    pair-answer (remainderOf (a .args .code)) (λ x y. pos 0) (remainder-row (c .before .match .keys2)) (a .pre .0)
+    (c .done .ensures) (remainder-is m) refl
+
+returns-3 : tie.Need-returns-3
+returns-3 c =
+    let m = c .before .before in
+    let a = m .before .before .before .before in
+    let rest = c .before .match .rest in
+    pair-answer (quotientOf (a .args .code)) (remainderOf (a .args .code))
+    (both-row (both-code (a .args .code) (a .pre .1) (rest .0 .1) (rest .1))) (a .pre .0)
+    (c .sized2 .ensures) (quotient-is (m .before)) (remainder-is m)
+
+pub divide-spec : {M : Type 1} → statement M
+divide-spec =
+    tie.close
+    (tie.spec
+    array-copy-out-x
+    array-copy-out-y
+    divide-requires
+    from-absolute-requires
+    sized-requires
+    done-requires
+    sized-requires-2
+    returns
+    returns-2
+    returns-3)
