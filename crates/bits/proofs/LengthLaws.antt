@@ -11,7 +11,7 @@ use lib.IntN.{ℤ, pos, negsuc, negℤ}
 use lib.Signed.{mag, _≤ℤ_, _<ℤ_}
 use Rattle.bits.specs.Testbit.{odd, isNegative, testbit, halvings, bitLength, fits}
 use Rattle.bits.specs.Logical.{bitwiseNot}
-use Rattle.bits.proofs.TestbitLaws.{halvings-zero, halvings-suc, mag-lt-bitLength}
+use Rattle.bits.proofs.TestbitLaws.{halvings-zero, halvings-suc, mag-lt-bitLength, testbit-above}
 
 -- ---- the length
 
@@ -73,6 +73,13 @@ unfolding fits
 fits-length w x h = (
   λ t. omega (arith, bitLength-le x (w - 1) (ltb→lt (mag x) (2 ^ (w - 1)) t)),
   λ l. lt→ltb (mag x) (2 ^ (w - 1)) (mag-lt x (w - 1) (omega arith)),
+)
+
+-- a number fits w exactly when its bits from w - 1 on are its sign
+pub fits-bits : (w : ℕ) (x : ℤ) → 0 < w → T (fits w x) ↔ ((i : ℕ) → w - 1 ≤ i → testbit x i ≡ isNegative x)
+fits-bits w x h = (
+  λ t i l. testbit-above x i (omega (arith, fits-length w x h .0 t)),
+  λ e. fits-length w x h .1 (omega (arith, bitLength-least-bits x (w - 1) e)),
 )
 
 -- `mag x` is below m exactly when -m <= x < m

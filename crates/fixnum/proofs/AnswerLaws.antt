@@ -1,13 +1,14 @@
 -- The stages of an answer, passed one by one; and the answers to the codes that demand 3 speaks of. Assumes nothing.
 use Prim.Native.Nat.{ℕ, zero, zero-le, suc, _+_, _-_, _≤_, _<_, _^_}
-use native.Mathlib.Nat.{le-trans, lt-of-le-of-lt}
+use native.Mathlib.Nat.{le-trans, lt-of-le-of-lt, pow-suc}
 use native.Mathlib.Omega.{arith}
 use mathlib.Core.Path.{_≡_, refl, sym, ap, _∙_, subst}
 use mathlib.Core.Bool.{Bool, true, false, cond, _&&_, _||_, xor}
 use mathlib.Core.List.{List, [], _∷_}
-use lib.Dec.{T, leb, ltb, eqb}
+use lib.Dec.{leb, ltb, eqb, lit<}
 use lib.IntN.{ℤ, pos, negsuc, natAbs, _-ℤ_}
-use lib.ListN.{length, take}
+use lib.ListN.{length}
+use lib.Seq.{take-length}
 use lib.Pow.{pow-pos}
 use lib.Signed.{leZ, ltZ}
 use borrow.Author.Tests.{le-leb, lt-ltb, leb-true, ltb-true}
@@ -20,7 +21,7 @@ use Rattle.fixnum.specs.declared.Answer.{Answer}
 use Rattle.fixnum.specs.Answers.{done, refuse, unless}
 use Rattle.fixnum.specs.Domains.{isWidth, arg, within, accepts, inDomainsFrom, inDomains}
 use Rattle.fixnum.specs.Operations.{every, one, three, four}
-use Rattle.fixnum.specs.Table.{rows, isCode, rowOf}
+use Rattle.fixnum.specs.Table.{row, rows, isCode, rowOf}
 use Rattle.fixnum.specs.Calls.{Accepted, counted, isCount, allFixnums, sized, outcome, fixnumAnswer}
 use Rattle.bits.specs.FieldList.{rotate, reverse}
 use Rattle.fixnum.specs.Lists.{ask, isDone}
@@ -43,6 +44,16 @@ accepted w code xs n k a =
 
 -- ---- the field operations
 
+lt-two-pow : (k : ℕ) → k < 2 ^ k
+lt-two-pow zero = lit< tt
+lt-two-pow (suc k) = omega (arith, pow-suc 2 k, lt-two-pow k)
+
+-- a count from 0 to size - 1 is a natural number below the size
+count-pos : (size : ℕ) (c : ℤ) → isDone size (rotate c) ≡ true → (n : ℕ) × (c ≡ pos n) × (n < size)
+unfolding isDone
+count-pos size (pos n) h = (n, refl, ltb-true n size (both-right (leb 0 n) (ltb n size) h))
+count-pos size (negsuc n) h = let z : _≡_ {A = ℕ} 0 1 = cc in absurd (omega arith)
+
 module _ (w : ℕ) (a : isWidth w ≡ true) where
   -- a position is a fixnum
   position-fits : (k : ℕ) → k ≤ w - 1 → fits w (pos k) ≡ true
@@ -50,9 +61,9 @@ module _ (w : ℕ) (a : isWidth w ≡ true) where
   position-fits k h = lt-ltb k (2 ^ (w - 1)) (lt-of-le-of-lt h (lt-two-pow (w - 1)))
 
   module _ (x : ℤ) (start end : ℕ) (f : fits w x ≡ true) (h : start ≤ end) (k : end ≤ w - 1) where
-    field-fixnums : (xs : List ℤ) → allFixnums w xs ≡ true → allFixnums w (x ∷ pos start ∷ pos end ∷ xs) ≡ true
+    field-fixnums : (xs : List ℤ) → allFixnums w (x ∷ pos start ∷ pos end ∷ xs) ≡ allFixnums w xs
     unfolding allFixnums
-    field-fixnums xs g = rw (f, position-fits start (le-trans h k), position-fits end k) g
+    field-fixnums xs = rw (f, position-fits start (le-trans h k), position-fits end k)
 
     start-in : within (pos 0) (pos start) (pos (w - 1)) ≡ true
     unfolding within
@@ -66,13 +77,51 @@ module _ (w : ℕ) (a : isWidth w ≡ true) where
     unfolding ask counted isCode isCount rowOf rows inDomains inDomainsFrom accepts arg outcome sized unless three allFixnums
     reverse-answer =
         accepted w 41 (x ∷ pos start ∷ pos end ∷ []) 3 refl
-        (record { width = a; arity = refl; fixnums = field-fixnums [] refl; domains = rw (start-in, end-in) })
+        (record { width = a; arity = refl; fixnums = field-fixnums []; domains = rw (start-in, end-in) })
 
-    -- code 40, by its count: the fourth argument's own two tests
+    -- code 40, by its count
     module _ (c : ℤ) where
+      count-fits : isDone (end - start) (rotate c) ≡ true → fits w c ≡ true
+      count-fits d =
+          let n = count-pos (end - start) c d in
+          subst (λ (z : ℤ). fits w z ≡ true) (sym (n .1)) (position-fits (n .0) (omega (arith, n .2)))
+
       pub rotate-answer : isDone (end - start) (rotate c) ≡ true
           → ask w 40 (x ∷ pos start ∷ pos end ∷ c ∷ []) ≡ done (rotateBitField x start end c) (pos 0)
       unfolding ask counted isCode isCount rowOf rows inDomains inDomainsFrom accepts arg outcome sized unless four allFixnums isDone
       rotate-answer d =
           accepted w 40 (x ∷ pos start ∷ pos end ∷ c ∷ []) 4 refl
-          (record { width = a; arity = refl; fixnums = field-fixnums (c ∷ []) ?; domains = rw (start-in, end-in, pos-sub-ge end start h, d) })
+          (record { width = a; arity = refl; fixnums = field-fixnums (c ∷ []) ∙ ap (λ (t : Bool). t && true) (count-fits d); domains = rw (start-in, end-in, pos-sub-ge end start h, d) })
+
+      pub rotate-no-fixnum : fits w c ≡ false → ask w 40 (x ∷ pos start ∷ pos end ∷ c ∷ []) ≡ refuse 4
+      unfolding ask fixnumAnswer counted isCode isCount rowOf rows allFixnums
+      rotate-no-fixnum e =
+          passed 1 _ a ∙ passed 2 _ refl ∙ passed 3 _ refl
+          ∙ failed 4 _ (field-fixnums (c ∷ []) ∙ ap (λ (t : Bool). t && true) e)
+
+      pub rotate-out-of-domain : fits w c ≡ true → isDone (end - start) (rotate c) ≡ false → ask w 40 (x ∷ pos start ∷ pos end ∷ c ∷ []) ≡ refuse 5
+      unfolding ask fixnumAnswer counted isCode isCount rowOf rows inDomains inDomainsFrom accepts arg allFixnums isDone
+      rotate-out-of-domain e d =
+          passed 1 _ a ∙ passed 2 _ refl ∙ passed 3 _ refl ∙ passed 4 _ (field-fixnums (c ∷ []) ∙ ap (λ (t : Bool). t && true) e)
+          ∙ failed 5 _ (rw (start-in, end-in, pos-sub-ge end start h, d))
+
+-- ---- the operations on all bits
+
+module _ (w : ℕ) (a : isWidth w ≡ true) where
+  -- an operation of one argument that is never refused
+  pub one-answer : (code : ℕ) (g : ℤ → ℤ) → isCode code ≡ true → rowOf code ≡ row 1 1 [] 0 (one g)
+      → (x : ℤ) → fits w x ≡ true → ask w code (x ∷ []) ≡ done (g x) (pos 0)
+  unfolding ask counted isCount inDomains inDomainsFrom arg outcome sized unless one allFixnums
+  one-answer code g k e x f =
+      accepted w code (x ∷ []) 1 k
+      (record { width = a; arity = rw e; fixnums = ap (λ (t : Bool). t && true) f; domains = rw e })
+      ∙ rw e
+
+  -- an operation of up to four arguments that is never refused
+  pub every-answer : (code : ℕ) (g : List ℤ → ℤ) → isCode code ≡ true → rowOf code ≡ row 0 4 [] 0 (every g)
+      → (xs : List ℤ) → length xs ≤ 4 → allFixnums w xs ≡ true → ask w code xs ≡ done (g xs) (pos 0)
+  unfolding ask counted isCount inDomains inDomainsFrom outcome sized unless every
+  every-answer code g k e xs l f =
+      accepted w code xs (length xs) k
+      (record { width = a; arity = rw (e, le-leb 0 (length xs) zero-le, le-leb (length xs) 4 l); fixnums = rw (take-length xs) f; domains = rw e })
+      ∙ rw (e, take-length xs)

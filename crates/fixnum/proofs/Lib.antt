@@ -5,4 +5,6 @@ pub mod DomainLaws
 pub mod LoopLaws
 pub mod CompareLaws
 pub mod DivisionRows
+pub mod AnswerLaws
+pub mod Demand3
 pub mod Cases

@@ -4,3 +4,4 @@ pub mod Operations
 pub mod Steps
 pub mod Table
 pub mod Calls
+pub mod Lists

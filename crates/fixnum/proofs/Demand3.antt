@@ -1,0 +1,246 @@
+-- Demand 3 for fixnums: every list of codes 40 and 41 on a field, at every accepted width. Assumes nothing.
+use Prim.Native.Nat.{ℕ, zero-le, _-_, _≤_, _<_, _^_}
+use native.Mathlib.Nat.{le-trans, le-of-lt, lt-of-lt-of-le, not-le-of-lt}
+use native.Mathlib.Omega.{arith}
+use mathlib.Core.Path.{_≡_, refl, sym, ap, _∙_, subst}
+use mathlib.Core.Bool.{Bool, true, false, cond, _&&_, _||_, xor}
+use mathlib.Core.List.{List, [], _∷_, map}
+use lib.Dec.{T, leb, eqb}
+use lib.IntN.{ℤ, pos}
+use lib.ListN.{length, length-map}
+use lib.Pow.{pow-pos, pow-lt}
+use lib.Signed.{leZ, ltZ, _≤ℤ_, _<ℤ_}
+use borrow.Author.Tests.{lt-ltb, le-ltb, le-leb}
+use Rattle.bits.specs.Testbit.{isNegative, testbit, fits, fill}
+use Rattle.bits.specs.Logical.{bitwise, bitwiseNot, bitwiseFrom, bitwiseAll, bitwiseAnds, bitwiseIors, bitwiseXors}
+use Rattle.bits.specs.Count.{bitCount}
+use Rattle.bits.specs.Field.{inField, rotateBitField, reverseBitField}
+use Rattle.bits.specs.FieldList.{FieldCall, rotate, reverse, runCall, runCalls, netCount, oddReversals}
+use Rattle.bits.proofs.Booleans.{and-false}
+use Rattle.bits.proofs.LengthLaws.{fits-bits, fits-not}
+use Rattle.bits.proofs.LogicalLaws.{testbit-bitwise, isNegative-bitwise}
+use Rattle.bits.proofs.ListTheorem.{ListLaw, list-theorem}
+use Rattle.fixnum.specs.declared.Answer.{Answer}
+use Rattle.fixnum.specs.Answers.{done, refuse}
+use Rattle.fixnum.specs.Domains.{isWidth}
+use Rattle.fixnum.specs.Operations.{one, every}
+use Rattle.fixnum.specs.Table.{row, rows, isCode, rowOf}
+use Rattle.fixnum.specs.Calls.{allFixnums}
+use Rattle.fixnum.specs.Lists.{ask, answerTo, handOn, runAll, isDone, turned, ListStatement}
+use Rattle.fixnum.proofs.CallLaws.{width-bounds, both-left, both-right, and-second}
+use Rattle.fixnum.proofs.TableLaws.{from-to}
+use Rattle.fixnum.proofs.AnswerLaws.{reverse-answer, rotate-answer, rotate-no-fixnum, rotate-out-of-domain, one-answer, every-answer}
+
+is-true : {t : Bool} → T t → t ≡ true
+is-true {t = true} h = refl
+is-true {t = false} h = absurd h
+
+holds : {t : Bool} → t ≡ true → T t
+holds e = subst T (sym e) tt
+
+-- ---- fixnums stay fixnums
+
+module _ (w : ℕ) (p : 0 < w) where
+  bitwise-fits : (op : Bool → Bool → Bool) (x y : ℤ) → fits w x ≡ true → fits w y ≡ true → fits w (bitwise op x y) ≡ true
+  bitwise-fits op x y f g =
+      is-true (fits-bits w (bitwise op x y) p .1 (λ i h.
+      testbit-bitwise op x y i
+      ∙ cc (fits-bits w x p .0 (holds f) i h, fits-bits w y p .0 (holds g) i h)
+      ∙ sym (isNegative-bitwise op x y)))
+
+  from-fits : (op : Bool → Bool → Bool) (x : ℤ) (ys : List ℤ) → fits w x ≡ true → allFixnums w ys ≡ true → fits w (bitwiseFrom op x ys) ≡ true
+  unfolding bitwiseFrom allFixnums
+  from-fits op x [] f g = f
+  from-fits op x (y ∷ ys) f g =
+      from-fits op (bitwise op x y) ys (bitwise-fits op x y f (both-left (fits w y) (allFixnums w ys) g)) (both-right (fits w y) (allFixnums w ys) g)
+
+  fill-fits : (e : Bool) → fits w (fill e) ≡ true
+  unfolding fits fill
+  fill-fits true = lt-ltb 0 (2 ^ (w - 1)) (pow-pos (w - 1))
+  fill-fits false = lt-ltb 0 (2 ^ (w - 1)) (pow-pos (w - 1))
+
+  all-fits : (op : Bool → Bool → Bool) (e : Bool) (xs : List ℤ) → allFixnums w xs ≡ true → fits w (bitwiseAll op e xs) ≡ true
+  unfolding bitwiseAll
+  all-fits op e xs g = from-fits op (fill e) xs (fill-fits e) g
+
+-- ---- a list of calls is the list of bits
+
+module _ (w : ℕ) (a : isWidth w ≡ true) (start end : ℕ) (h : start < end) (k : end ≤ w - 1) where
+  law : (done : FieldCall → Bool) → ListLaw done start end
+  law done = list-theorem done start end h
+
+  positive : 0 < w
+  positive = let b = width-bounds w a in omega arith
+
+  calls-fit : (done : FieldCall → Bool) (calls : List FieldCall) (x : ℤ) → fits w x ≡ true → fits w (runCalls done start end calls x) ≡ true
+  unfolding inField
+  calls-fit done calls x f =
+      is-true (fits-bits w (runCalls done start end calls x) positive .1 (λ i l.
+      law done .outside calls x i (ap (λ (t : Bool). leb start i && t) (le-ltb i end (le-trans k l)) ∙ and-false (leb start i))
+      ∙ fits-bits w x positive .0 (holds f) i l
+      ∙ sym (law done .sign calls x)))
+
+  -- one call: its answer by the rule, and what it hands on
+  record Step (call : FieldCall) (x : ℤ) : Type 0 where
+    pub ruled : eqb (answerTo w start end call x .refusal) 0 ≡ isDone (end - start) call
+    pub handed : handOn (answerTo w start end call x) x ≡ cond (isDone (end - start) call) (runCall start end call x) x
+
+  done-step : (call : FieldCall) (x : ℤ) → answerTo w start end call x ≡ done (runCall start end call x) (pos 0) → isDone (end - start) call ≡ true
+      → Step call x
+  unfolding done handOn
+  done-step call x e d = record {
+    ruled = ap (λ (r : Answer). eqb (r .refusal) 0) e ∙ sym d;
+    handed = ap (λ (r : Answer). handOn r x) e ∙ sym (ap (λ (t : Bool). cond t (runCall start end call x) x) d);
+  }
+
+  refused-step : (call : FieldCall) (x : ℤ) (n : ℕ) → answerTo w start end call x ≡ refuse n → eqb n 0 ≡ false → isDone (end - start) call ≡ false
+      → Step call x
+  unfolding refuse handOn
+  refused-step call x n e z d = record {
+    ruled = ap (λ (r : Answer). eqb (r .refusal) 0) e ∙ z ∙ sym d;
+    handed = ap (λ (r : Answer). handOn r x) e ∙ ap (λ (t : Bool). cond t (pos 0) x) z ∙ sym (ap (λ (t : Bool). cond t (runCall start end call x) x) d);
+  }
+
+  step : (call : FieldCall) (x : ℤ) → fits w x ≡ true → Step call x
+  unfolding answerTo runCall isDone
+  step (rotate c) x f = go (isDone (end - start) (rotate c)) (fits w c) refl refl
+    where
+      go : (d g : Bool) → isDone (end - start) (rotate c) ≡ d → fits w c ≡ g → Step (rotate c) x
+      go true g p q = done-step (rotate c) x (rotate-answer w a x start end f (le-of-lt h) k c p) p
+      go false false p q = refused-step (rotate c) x 4 (rotate-no-fixnum w a x start end f (le-of-lt h) k c q) refl p
+      go false true p q = refused-step (rotate c) x 5 (rotate-out-of-domain w a x start end f (le-of-lt h) k c q p) refl p
+  step reverse x f = done-step reverse x (reverse-answer w a x start end f (le-of-lt h) k) refl
+
+  agree : (calls : List FieldCall) (x : ℤ) → fits w x ≡ true → runAll w start end calls x ≡ runCalls (isDone (end - start)) start end calls x
+  unfolding runAll runCalls
+  agree [] x f = refl
+  agree (call ∷ calls) x f =
+      ap (runAll w start end calls) (step call x f .handed)
+      ∙ agree calls (cond (isDone (end - start) call) (runCall start end call x) x) (calls-fit (isDone (end - start)) (call ∷ []) x f)
+
+  -- ---- the parts of the statement
+
+  abbrev rule : FieldCall → Bool
+  rule = isDone (end - start)
+
+  run-fits : (calls : List FieldCall) (x : ℤ) → fits w x ≡ true → fits w (runAll w start end calls x) ≡ true
+  run-fits calls x f = subst (λ (z : ℤ). fits w z ≡ true) (sym (agree calls x f)) (calls-fit rule calls x f)
+
+  -- the number that the one rotation gets, as bits has it
+  turned-is : (calls : List FieldCall) (x : ℤ) → fits w x ≡ true → turned w start end calls x ≡ cond (oddReversals rule calls) (reverseBitField x start end) x
+  unfolding turned done
+  turned-is calls x f =
+      ap (λ (r : Answer). cond (oddReversals rule calls) (r .first) x) (reverse-answer w a x start end f (le-of-lt h) k)
+
+  turned-fits : (calls : List FieldCall) (x : ℤ) → fits w x ≡ true → fits w (turned w start end calls x) ≡ true
+  unfolding runCalls runCall
+  turned-fits calls x f = rw (turned-is calls x f) (go (oddReversals rule calls))
+    where
+      go : (t : Bool) → fits w (cond t (reverseBitField x start end) x) ≡ true
+      go true = calls-fit (λ _. true) (reverse ∷ []) x f
+      go false = f
+
+  net-done : (calls : List FieldCall) → isDone (end - start) (rotate (netCount rule (end - start) calls)) ≡ true
+  unfolding isDone
+  net-done calls =
+      let n = netCount rule (end - start) calls in
+      sym (and-second (leZ (pos 0) n) (ltZ n (pos (end - start))) (is-true (law rule .net-count calls .0 .le)))
+      ∙ is-true (law rule .net-count calls .1 .lt)
+
+  ends : (calls : List FieldCall) (x : ℤ) → fits w x ≡ true
+      → ask w 40 (turned w start end calls x ∷ pos start ∷ pos end ∷ netCount rule (end - start) calls ∷ []) ≡ done (runAll w start end calls x) (pos 0)
+  ends calls x f =
+      rotate-answer w a (turned w start end calls x) start end (turned-fits calls x f) (le-of-lt h) k (netCount rule (end - start) calls) (net-done calls)
+      ∙ ap (λ (z : ℤ). done z (pos 0))
+      (ap (λ (y : ℤ). rotateBitField y start end (netCount rule (end - start) calls)) (turned-is calls x f)
+      ∙ sym (law rule .end-number calls x)
+      ∙ sym (agree calls x f))
+
+  not-answer : (x : ℤ) → fits w x ≡ true → ask w 25 (x ∷ []) ≡ done (bitwiseNot x) (pos 0)
+  unfolding isCode rowOf rows
+  not-answer = one-answer w a 25 bitwiseNot refl refl
+
+  count-answer : (x : ℤ) → fits w x ≡ true → ask w 30 (x ∷ []) ≡ done (bitCount x) (pos 0)
+  unfolding isCode rowOf rows
+  count-answer = one-answer w a 30 bitCount refl refl
+
+  counts-stay : (calls : List FieldCall) (x : ℤ) → fits w x ≡ true → ask w 30 (runAll w start end calls x ∷ []) ≡ ask w 30 (x ∷ [])
+  counts-stay calls x f =
+      count-answer (runAll w start end calls x) (run-fits calls x f)
+      ∙ ap (λ (z : ℤ). done z (pos 0)) (ap bitCount (agree calls x f) ∙ law rule .bit-count calls x)
+      ∙ sym (count-answer x f)
+
+  nots : (calls : List FieldCall) (x : ℤ) → fits w x ≡ true
+      → ask w 25 (runAll w start end calls x ∷ []) ≡ done (runAll w start end calls (ask w 25 (x ∷ []) .first)) (pos 0)
+  unfolding done
+  nots calls x f =
+      not-answer (runAll w start end calls x) (run-fits calls x f)
+      ∙ ap (λ (z : ℤ). done z (pos 0))
+      (ap bitwiseNot (agree calls x f)
+      ∙ sym (law rule .commutes-not calls x)
+      ∙ sym (agree calls (bitwiseNot x) (fits-not w x ∙ f))
+      ∙ ap (λ (r : Answer). runAll w start end calls (r .first)) (sym (not-answer x f)))
+
+  map-fits : (calls : List FieldCall) (xs : List ℤ) → allFixnums w xs ≡ true → allFixnums w (map (runAll w start end calls) xs) ≡ true
+  unfolding allFixnums
+  map-fits calls [] f = refl
+  map-fits calls (x ∷ xs) f =
+      rw (run-fits calls x (both-left (fits w x) (allFixnums w xs) f)) (map-fits calls xs (both-right (fits w x) (allFixnums w xs) f))
+
+  map-agree : (calls : List FieldCall) (xs : List ℤ) → allFixnums w xs ≡ true → map (runAll w start end calls) xs ≡ map (runCalls rule start end calls) xs
+  unfolding allFixnums
+  map-agree calls [] f = refl
+  map-agree calls (x ∷ xs) f =
+      cc (agree calls x (both-left (fits w x) (allFixnums w xs) f), map-agree calls xs (both-right (fits w x) (allFixnums w xs) f))
+
+  -- codes 26, 27 and 28 alike
+  over-all : (calls : List FieldCall) (code : ℕ) (op : Bool → Bool → Bool) (e : Bool) → isCode code ≡ true → rowOf code ≡ row 0 4 [] 0 (every (bitwiseAll op e))
+      → (xs : List ℤ) → length xs ≤ 4 → allFixnums w xs ≡ true
+      → ask w code (map (runAll w start end calls) xs) ≡ done (runAll w start end calls (ask w code xs .first)) (pos 0)
+  unfolding done
+  over-all calls code op e c r xs l f =
+      every-answer w a code (bitwiseAll op e) c r (map (runAll w start end calls) xs) (omega (arith, length-map xs (runAll w start end calls))) (map-fits calls xs f)
+      ∙ ap (λ (z : ℤ). done z (pos 0))
+      (ap (bitwiseAll op e) (map-agree calls xs f)
+      ∙ sym (law rule .distributes-all calls op e xs)
+      ∙ sym (agree calls (bitwiseAll op e xs) (all-fits w positive op e xs f))
+      ∙ ap (λ (r : Answer). runAll w start end calls (r .first)) (sym (every-answer w a code (bitwiseAll op e) c r xs l f)))
+
+  distributed : (calls : List FieldCall) (code : ℕ) → 26 ≤ code → code ≤ 28 → (xs : List ℤ) → length xs ≤ 4 → allFixnums w xs ≡ true
+      → ask w code (map (runAll w start end calls) xs) ≡ done (runAll w start end calls (ask w code xs .first)) (pos 0)
+  unfolding isCode rowOf rows bitwiseAnds bitwiseIors bitwiseXors
+  distributed calls code m n =
+      from-to (λ c. (xs : List ℤ) → length xs ≤ 4 → allFixnums w xs ≡ true
+      → ask w c (map (runAll w start end calls) xs) ≡ done (runAll w start end calls (ask w c xs .first)) (pos 0)) 26 3
+      (over-all calls 26 _&&_ true refl refl, (over-all calls 27 _||_ false refl refl, (over-all calls 28 xor false refl refl, tt)))
+      code m (omega arith)
+
+  witness-fits : fits w (pos (2 ^ start)) ≡ true
+  unfolding fits
+  witness-fits = lt-ltb (2 ^ start) (2 ^ (w - 1)) (pow-lt (lt-of-lt-of-le h k))
+
+  rotated : (c : ℕ) → c < end - start
+      → ask w 40 (pos (2 ^ start) ∷ pos start ∷ pos end ∷ pos c ∷ []) ≡ done (rotateBitField (pos (2 ^ start)) start end (pos c)) (pos 0)
+  unfolding isDone
+  rotated c l = rotate-answer w a (pos (2 ^ start)) start end witness-fits (le-of-lt h) k (pos c) (rw (le-leb 0 c zero-le, lt-ltb c (end - start) l))
+
+  different : (c d : ℕ) → c < end - start → d < end - start → (c ≡ d → ⊥)
+      → (x : ℤ) × (fits w x ≡ true) × (ask w 40 (x ∷ pos start ∷ pos end ∷ pos c ∷ []) ≡ ask w 40 (x ∷ pos start ∷ pos end ∷ pos d ∷ []) → ⊥)
+  unfolding done
+  different c d l m n =
+      (pos (2 ^ start), witness-fits, λ e. law rule .counts-differ c d l m n (ap (λ (r : Answer). r .first) (sym (rotated c l) ∙ e ∙ rotated d m)))
+
+pub demand3-fixnum : (w : ℕ) → isWidth w ≡ true → (start end : ℕ) → start < end → end ≤ w - 1 → ListStatement w start end
+demand3-fixnum w a start end h k = record {
+  rule = λ call x f. step w a start end h k call x f .ruled;
+  legal = run-fits w a start end h k;
+  end-number = ends w a start end h k;
+  bit-count = counts-stay w a start end h k;
+  sign = λ calls x f.
+      ap isNegative (agree w a start end h k calls x f) ∙ list-theorem (isDone (end - start)) start end h .sign calls x;
+  outside = λ calls x f i o.
+      ap (λ (z : ℤ). testbit z i) (agree w a start end h k calls x f) ∙ list-theorem (isDone (end - start)) start end h .outside calls x i o;
+  commutes-not = nots w a start end h k;
+  distributes = distributed w a start end h k;
+  counts-differ = different w a start end h k;
+}
