@@ -6,5 +6,6 @@ pub mod LoopLaws
 pub mod CompareLaws
 pub mod DivisionRows
 pub mod AnswerLaws
+pub mod Influence
 pub mod Demand3
 pub mod Cases
