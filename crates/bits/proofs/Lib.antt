@@ -12,6 +12,7 @@ pub mod DivisionLaws
 pub mod ValueLaws
 pub mod FieldLaws
 pub mod FieldAlgebra
+pub mod FieldWords
 pub mod RotateLaws
 pub mod Locality
 pub mod CountLaws
