@@ -12,8 +12,8 @@ pub mod DivisionLaws
 pub mod ValueLaws
 pub mod FieldLaws
 pub mod FieldAlgebra
-pub mod FieldWords
 pub mod RotateLaws
+pub mod FieldWords
 pub mod Locality
 pub mod CountLaws
 pub mod ListTheorem
