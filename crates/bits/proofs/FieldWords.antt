@@ -85,9 +85,9 @@ copyBitField-low x start end y =
     setField-ext x x start end (λ j. testbit y j) (λ j. testbit (pos (modℕ y (2 ^ (end - start)))) j) (λ i o. refl)
     (λ j h. sym (testbit-modℕ-lt y (end - start) j h))
 
--- a number in three digits: above the field, the field and below it
-digits-below-end : (start end v r : ℕ) → start ≤ end → v < 2 ^ (end - start) → r < 2 ^ start → v * 2 ^ start + r < 2 ^ end
-digits-below-end start end v r h l k =
+-- the digits v and r, below 2^end
+digits-lt-pow : (start end v r : ℕ) → start ≤ end → v < 2 ^ (end - start) → r < 2 ^ start → v * 2 ^ start + r < 2 ^ end
+digits-lt-pow start end v r h l k =
     subst (λ (n : ℕ). v * 2 ^ start + r < n)
     (sym (pow-add 2 (end - start) start) ∙ (let e : end - start + start ≡ end = omega arith in ap (λ (n : ℕ). 2 ^ n) e))
     (digits-lt l k)
@@ -95,7 +95,7 @@ digits-below-end start end v r h l k =
 copyBitField-digits : (m start end v : ℕ) → start ≤ end → v < 2 ^ (end - start)
     → pos (m / 2 ^ end * 2 ^ end + (v * 2 ^ start + m % 2 ^ start)) ≡ copyBitField (pos m) start end (pos v)
 copyBitField-digits m start end v h l = testbit-ext λ i.
-    testbit-digits (m / 2 ^ end) (v * 2 ^ start + m % 2 ^ start) end i (digits-below-end start end v (m % 2 ^ start) h l (mod-lt m (pow-pos start)))
+    testbit-digits (m / 2 ^ end) (v * 2 ^ start + m % 2 ^ start) end i (digits-lt-pow start end v (m % 2 ^ start) h l (mod-lt m (pow-pos start)))
     ∙ by-lt
     (λ b. cond b (testbit (pos (v * 2 ^ start + m % 2 ^ start)) i) (testbit (pos (m / 2 ^ end)) (i - end))
     ≡ cond (inField start end i) (testbit (pos v) (i - start)) (testbit (pos m) i))
@@ -204,15 +204,21 @@ unfolding rotateIndex modℕ
 rotate-high size c j h l =
     ap (λ (x : ℤ). modℕ x size) (pos-sub-ge j c h) ∙ (let u : j - c < size = omega arith in mod-eq-of-lt u)
 
+rotate-div-lt : (v size c : ℕ) → v < 2 ^ size → c ≤ size → v / 2 ^ (size - c) < 2 ^ c
+rotate-div-lt v size c h k =
+    let e : size ≡ c + (size - c) = omega arith in shr-lt c (size - c) (subst (λ (n : ℕ). v < 2 ^ n) e h)
+
+pub rotate-digits-lt : (v size c : ℕ) → v < 2 ^ size → c ≤ size → v % 2 ^ (size - c) * 2 ^ c + v / 2 ^ (size - c) < 2 ^ size
+rotate-digits-lt v size c h k =
+    digits-lt-pow c size (v % 2 ^ (size - c)) (v / 2 ^ (size - c)) k (mod-lt v (pow-pos (size - c))) (rotate-div-lt v size c h k)
+
 -- the low size - c bits go up by c, and the c bits above them come down
 pub rotate-digits : (v size c : ℕ) → v < 2 ^ size → c ≤ size
     → pos (v % 2 ^ (size - c) * 2 ^ c + v / 2 ^ (size - c)) ≡ rotateBitField (pos v) 0 size (pos c)
 unfolding rotateBitField
 rotate-digits v size c h k =
-    permuted (rotateIndex size (pos c)) (v % 2 ^ (size - c) * 2 ^ c + v / 2 ^ (size - c)) v size
-    (digits-below-end c size (v % 2 ^ (size - c)) (v / 2 ^ (size - c)) k (mod-lt v (pow-pos (size - c))) below)
-    h
-    (λ j u. testbit-digits (v % 2 ^ (size - c)) (v / 2 ^ (size - c)) c j below
+    permuted (rotateIndex size (pos c)) (v % 2 ^ (size - c) * 2 ^ c + v / 2 ^ (size - c)) v size (rotate-digits-lt v size c h k) h
+    (λ j u. testbit-digits (v % 2 ^ (size - c)) (v / 2 ^ (size - c)) c j (rotate-div-lt v size c h k)
     ∙ by-lt
     (λ b. cond b (testbit (pos (v / 2 ^ (size - c))) j) (testbit (pos (v % 2 ^ (size - c))) (j - c))
     ≡ testbit (pos v) (rotateIndex size (pos c) j))
@@ -220,9 +226,6 @@ rotate-digits v size c h k =
     (λ l. testbit-div v (size - c) j ∙ ap (testbit (pos v)) (sym (rotate-low size c j k l)))
     (λ l. testbit-mod-lt v (size - c) (j - c) (omega arith) ∙ ap (testbit (pos v)) (sym (rotate-high size c j l u))))
     ∙ ap (λ (n : ℕ). permuteField (rotateIndex n (pos c)) (pos v) 0 size) (sym (whole size))
-  where
-    below : v / 2 ^ (size - c) < 2 ^ c
-    below = shr-lt c (size - c) (subst (λ (n : ℕ). v < 2 ^ n) (let e : size ≡ c + (size - c) = omega arith in e) h)
 
 -- the low k digits of v in the opposite order, below those of r
 abbrev pub reverseDigits : ℕ → ℕ → ℕ → ℕ
