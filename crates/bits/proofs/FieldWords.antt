@@ -15,7 +15,7 @@ use Rattle.bits.specs.Testbit.{odd, isNegative, testbit, fits, fill, ofB
 use Rattle.bits.specs.Sign.{ofMagnitude}
 use Rattle.bits.specs.Logical.{bitwiseNot}
 use Rattle.bits.specs.Shift.{floorDiv, shiftRight}
-use Rattle.bits.specs.Division.{modℕ, mod0}
+use Rattle.bits.specs.Division.{modℕ, «mod», mod0}
 use Rattle.bits.specs.Field.{
   inField,
   bitField,
@@ -34,7 +34,7 @@ use Rattle.bits.proofs.TestbitLaws.{by-lt, testbit-ext, testbit-fill, t
 use Rattle.bits.proofs.LogicalLaws.{testbit-not}
 use Rattle.bits.proofs.LengthLaws.{bitLength-least-bits, mag-lt}
 use Rattle.bits.proofs.ModLaws.{modℕ-lt, modℕ-small}
-use Rattle.bits.proofs.ValueLaws.{ofBits-modℕ, testbit-modℕ-pow, testbit-mod0-pow, mod0-pow-same}
+use Rattle.bits.proofs.ValueLaws.{bitField-value, ofBits-modℕ, testbit-modℕ-pow, testbit-mod0-pow, mod0-pow-same}
 use Rattle.bits.proofs.FieldLaws.{
   inField-true,
   inField-lt,
@@ -84,6 +84,10 @@ unfolding copyBitField
 copyBitField-low x start end y =
     setField-ext x x start end (λ j. testbit y j) (λ j. testbit (pos (modℕ y (2 ^ (end - start)))) j) (λ i o. refl)
     (λ j h. sym (testbit-modℕ-lt y (end - start) j h))
+
+pub copyBitField-put : (x : ℤ) (start end : ℕ) (y : ℤ) {v : ℕ} → v ≡ modℕ y (2 ^ (end - start))
+    → copyBitField x start end (pos v) ≡ copyBitField x start end y
+copyBitField-put x start end y p = ap (λ (n : ℕ). copyBitField x start end (pos n)) p ∙ sym (copyBitField-low x start end y)
 
 -- the digits v and r, below 2^end
 digits-lt-pow : (start end v r : ℕ) → start ≤ end → v < 2 ^ (end - start) → r < 2 ^ start → v * 2 ^ start + r < 2 ^ end
@@ -165,7 +169,7 @@ permuteField-number p x start end into =
 whole : (size : ℕ) → size - 0 ≡ size
 whole size = omega arith
 
-pub rotate-number : (x : ℤ) (start end : ℕ) (c : ℤ)
+rotate-number : (x : ℤ) (start end : ℕ) (c : ℤ)
     → rotateBitField x start end c ≡ copyBitField x start end (rotateBitField (bitField x start end) 0 (end - start) c)
 unfolding rotateBitField
 rotate-number x start end c =
@@ -173,13 +177,30 @@ rotate-number x start end c =
     ∙ ap (λ (size : ℕ). copyBitField x start end (permuteField (rotateIndex size c) (bitField x start end) 0 (end - start)))
     (sym (whole (end - start)))
 
-pub reverse-number : (x : ℤ) (start end : ℕ)
+reverse-number : (x : ℤ) (start end : ℕ)
     → reverseBitField x start end ≡ copyBitField x start end (reverseBitField (bitField x start end) 0 (end - start))
 unfolding reverseBitField
 reverse-number x start end =
     permuteField-number (reverseIndex (end - start)) x start end (λ j h. reverseIndex-lt (end - start) (omega arith) j)
     ∙ ap (λ (size : ℕ). copyBitField x start end (permuteField (reverseIndex size) (bitField x start end) 0 (end - start)))
     (sym (whole (end - start)))
+
+-- the field v of x, taken as a number and put back as r
+pub bitField-number : (x : ℤ) (start end : ℕ) {v : ℕ} → v ≡ modℕ (shiftRight x start) (2 ^ (end - start)) → pos v ≡ bitField x start end
+unfolding «mod»
+bitField-number x start end p = ap pos p ∙ sym (bitField-value x start end)
+
+pub rotate-put : (x : ℤ) (start end : ℕ) (c : ℤ) {v r : ℕ} → v ≡ modℕ (shiftRight x start) (2 ^ (end - start))
+    → pos r ≡ rotateBitField (pos v) 0 (end - start) c → copyBitField x start end (pos r) ≡ rotateBitField x start end c
+rotate-put x start end c p q =
+    ap (copyBitField x start end) (q ∙ ap (λ (y : ℤ). rotateBitField y 0 (end - start) c) (bitField-number x start end p))
+    ∙ sym (rotate-number x start end c)
+
+pub reverse-put : (x : ℤ) (start end : ℕ) {v r : ℕ} → v ≡ modℕ (shiftRight x start) (2 ^ (end - start))
+    → pos r ≡ reverseBitField (pos v) 0 (end - start) → copyBitField x start end (pos r) ≡ reverseBitField x start end
+reverse-put x start end p q =
+    ap (copyBitField x start end) (q ∙ ap (λ (y : ℤ). reverseBitField y 0 (end - start)) (bitField-number x start end p))
+    ∙ sym (reverse-number x start end)
 
 -- a number below 2^size that has the permuted bits of v
 permuted : (p : ℕ → ℕ) (n v size : ℕ) → n < 2 ^ size → v < 2 ^ size → ((j : ℕ) → j < size → testbit (pos n) j ≡ testbit (pos v) (p j))

@@ -7,7 +7,9 @@ ghost use Rattle.fixnum.specs.Answers as answers;
 ghost use Rattle.fixnum.specs.Domains.{isWidth};
 ghost use Rattle.fixnum.specs.Calls as calls;
 
+mod fields;
 mod logical;
+mod rotation;
 
 use words::sign::absolute_fits;
 use words::sign::from_absolute;
