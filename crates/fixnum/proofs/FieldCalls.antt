@@ -3,7 +3,7 @@ use Prim.Native.Nat.{ℕ, zero, suc, _+_, _-_, _≤_, _<_, _^_}
 use native.Mathlib.Nat.{lt-of-lt-of-le}
 use native.Mathlib.Omega.{arith}
 use mathlib.Core.Path.{_≡_, refl, sym, ap, subst, _∙_}
-use mathlib.Core.Bool.{Bool, true, false, cond, _&&_}
+use mathlib.Core.Bool.{true, false, cond, _&&_}
 use mathlib.Core.List.{List, [], _∷_}
 use lib.Dec.{lit<, leb, eqb}
 use lib.Pow.{pow-pos, pow-mono}
@@ -11,7 +11,7 @@ use lib.IntN.{ℤ, pos, negsuc, natAbs, _-ℤ_}
 use lib.Signed.{leZ, ltZ}
 use mir.Syntax.{w64}
 use mir.Val.{SFits, toZ, ofZ}
-use borrow.Author.Tests.{leb-true, ltb-true}
+use borrow.Author.Tests.{ltb-true}
 use Rattle.bits.specs.Testbit.{isNegative, testbit, fits, fill, ofBits}
 use Rattle.bits.specs.Shift.{shiftRight}
 use Rattle.bits.specs.Division.{modℕ, mod0}
@@ -89,8 +89,11 @@ unfolding isCount
 least-lt w code xs n i a h = lt-of-lt-of-le h (between (rowOf code .least) n (rowOf code .most) (a .arity) .0)
 
 module _ (w code : ℕ) (xs : List ℤ) (n : ℕ) (a : Accepted w code xs n) where
+  pub fixnum-arg : (i : ℕ) → i < rowOf code .least → fits w (arg xs i) ≡ true
+  fixnum-arg i h = fits-arg w xs n i (a .fixnums) (least-lt w code xs n i a h)
+
   word-arg : (i : ℕ) → i < rowOf code .least → SFits w64 (arg xs i)
-  word-arg i h = word-fixnum w (arg xs i) (a .width) (fits-arg w xs n i (a .fixnums) (least-lt w code xs n i a h))
+  word-arg i h = word-fixnum w (arg xs i) (a .width) (fixnum-arg i h)
 
   arg-least : (i : ℕ) → i < rowOf code .least → arg (counted xs n) i ≡ arg xs i
   arg-least i h = arg-counted xs n i (least-lt w code xs n i a h)
@@ -138,7 +141,7 @@ module _ (w code : ℕ) (xs : List ℤ) (n : ℕ) (a : Accepted w code xs n) whe
           start = position-natural (fieldEnd ∷ ds) d (omega arith);
           end = record { word = word-arg 2 l; natural = field-within .0 };
           ordered = field-within .1;
-          below = omega (arith, field-within .2)
+          below = omega (arith, field-within .2);
         }
 
     field-rest : inDomainsFrom 3 ds w (counted xs n) ≡ true
@@ -152,9 +155,9 @@ rotation-args w xs n a =
     let f = field-args w 40 xs n a (rotation ∷ []) refl (lit< tt) in
     let ys = counted xs n in
     let b =
-        count-pos (natAbs (arg xs 1)) (natAbs (arg xs 2)) (arg xs 3) (f .ordered)
-        (rw (itself (arg xs 1) (f .start .natural), itself (arg xs 2) (f .end .natural), sym (arg-least w 40 xs n a 1 (lit< tt)), sym (arg-least w 40 xs n a 2 (lit< tt)), sym (arg-least w 40 xs n a 3 (lit< tt)))
-        (both-left (leZ (pos 0) (arg ys 3) && ltZ (arg ys 3) (arg ys 2 -ℤ arg ys 1)) true (field-rest w 40 xs n a (rotation ∷ []) refl (lit< tt)))) in
+    count-pos (natAbs (arg xs 1)) (natAbs (arg xs 2)) (arg xs 3) (f .ordered)
+    (rw (itself (arg xs 1) (f .start .natural), itself (arg xs 2) (f .end .natural), sym (arg-least w 40 xs n a 1 (lit< tt)), sym (arg-least w 40 xs n a 2 (lit< tt)), sym (arg-least w 40 xs n a 3 (lit< tt)))
+    (both-left (leZ (pos 0) (arg ys 3) && ltZ (arg ys 3) (arg ys 2 -ℤ arg ys 1)) true (field-rest w 40 xs n a (rotation ∷ []) refl (lit< tt)))) in
     (record { word = word-arg w 40 xs n a 3 (lit< tt); natural = b .0 }, b .1)
 
 -- code 34's new bit
@@ -162,9 +165,9 @@ pub new-bit-args : (w : ℕ) (xs : List ℤ) (n : ℕ) → Accepted w 34 xs n �
 unfolding rowOf rows inDomainsFrom accepts
 new-bit-args w xs n a =
     let b =
-        within-pos 0 1 (arg xs 2)
-        (rw (sym (arg-least w 34 xs n a 2 (lit< tt)))
-        (both-left (within (pos 0) (arg (counted xs n) 2) (pos 1)) true (position-rest w 34 xs n a (newBit ∷ []) refl (lit< tt)))) in
+    within-pos 0 1 (arg xs 2)
+    (rw (sym (arg-least w 34 xs n a 2 (lit< tt)))
+    (both-left (within (pos 0) (arg (counted xs n) 2) (pos 1)) true (position-rest w 34 xs n a (newBit ∷ []) refl (lit< tt)))) in
     (record { word = word-arg w 34 xs n a 2 (lit< tt); natural = b .0 }, b .2)
 
 -- ---- the results of a code that is never refused for size

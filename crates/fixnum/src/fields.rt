@@ -23,7 +23,11 @@ pub fn bit_set(width: u64, args: [i64; 4], count: u64) -> Answer
 {
     let x = args[0];
     let k = natural(args[1]);
-    if field::bit_set(x, k) { done(1, 0) } else { done(0, 0) }
+    if field::bit_set(x, k) {
+        done(1, 0)
+    } else {
+        done(0, 0)
+    }
 }
 
 // fxcopy-bit: at position width - 1 the new bit is the sign.

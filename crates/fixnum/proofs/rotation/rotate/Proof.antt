@@ -1,7 +1,7 @@
 -- `fixnum::rotation::rotate` meets its contract. Assumes nothing.
 use borrow.Author.Needs.{needs}
 use native.Mathlib.Omega.{arith}
-use mathlib.Core.Path.{_≡_, refl, sym, ap, _∙_}
+use mathlib.Core.Path.{_≡_, refl, sym, _∙_}
 use mathlib.Core.List.{List, [], _∷_}
 use Prim.Native.Nat.{ℕ, _-_, _≤_, _<_}
 use lib.Dec.{lit<}
@@ -69,12 +69,13 @@ count-le c =
     let b = e .before .before .before .before .before in
     let f = args b in
     let r = rotation-args _ _ _ (b .pre) in
-    omega
-    (arith,
-    natural-answer (f .start) (e .before .before .natural .ensures),
-    natural-answer (f .end) (e .natural2 .ensures),
-    natural-answer (r .0) (c .natural3 .ensures),
-    r .1)
+    omega (
+      arith,
+      natural-answer (f .start) (e .before .before .natural .ensures),
+      natural-answer (f .end) (e .natural2 .ensures),
+      natural-answer (r .0) (c .natural3 .ensures),
+      r .1,
+    )
 
 rotate-requires : tie.Need-rotate-requires
 rotate-requires c κs =
