@@ -14,6 +14,7 @@ pub mod FieldLaws
 pub mod FieldAlgebra
 pub mod RotateLaws
 pub mod FieldWords
+pub mod RotateWords
 pub mod Locality
 pub mod CountLaws
 pub mod ListTheorem

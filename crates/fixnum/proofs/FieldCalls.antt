@@ -27,7 +27,7 @@ use Rattle.fixnum.specs.Table.{rows, rowOf}
 use Rattle.fixnum.specs.Calls.{Accepted, counted, isCount, sized}
 use Rattle.fixnum.proofs.CallLaws.{both-left, both-right, between, width-bounds, arg-counted, arg-exactly, fits-arg, word-fixnum}
 
--- ---- numbers from a natural number up
+-- ---- arguments that are not negative
 
 pub record Natural (x : ℤ) : Type 0 where
   pub word : SFits w64 x
@@ -56,12 +56,12 @@ natural-answer h e = e ∙ ap natAbs (back (h .word))
 pub natural-pos : {x : ℤ} {n : ℕ} → Natural x → n ≡ natAbs (toZ w64 (ofZ w64 x)) → pos n ≡ x
 natural-pos {x} h e = ap pos (natural-answer h e) ∙ itself x (h .natural)
 
--- the same of a field
+-- a field's start and end, so read
 pub field-words : {xs : List ℤ} {s e : ℕ} → FieldArgs xs → s ≡ natAbs (toZ w64 (ofZ w64 (arg xs 1))) → e ≡ natAbs (toZ w64 (ofZ w64 (arg xs 2)))
     → (s ≤ e) × (e < 64)
 field-words f p q = let a = natural-answer (f .start) p in let b = natural-answer (f .end) q in omega (arith, f .ordered, f .below)
 
--- what an operation makes of the places, and of the arguments
+-- what an operation makes of the words that were read, and of the arguments
 module _ {xs : List ℤ} {s e : ℕ} (f : FieldArgs xs) (p : s ≡ natAbs (toZ w64 (ofZ w64 (arg xs 1)))) (q : e ≡ natAbs (toZ w64 (ofZ w64 (arg xs 2)))) where
   pub on-field : (F : ℤ → ℕ → ℕ → ℤ) → F (toZ w64 (ofZ w64 (arg xs 0))) s e ≡ F (arg xs 0) (natAbs (arg xs 1)) (natAbs (arg xs 2))
   on-field F = cc (back (f .number), natural-answer (f .start) p, natural-answer (f .end) q)
@@ -83,7 +83,7 @@ count-pos s e (negsuc n) l h = let z : _≡_ {A = ℕ} 0 1 = cc in absurd (omega
 
 -- ---- the domains of an accepted call
 
--- a code that takes at least so many arguments has its argument i among the places
+-- an argument below a code's least count is among the counted ones
 least-lt : (w code : ℕ) (xs : List ℤ) (n i : ℕ) → Accepted w code xs n → i < rowOf code .least → i < n
 unfolding isCount
 least-lt w code xs n i a h = lt-of-lt-of-le h (between (rowOf code .least) n (rowOf code .most) (a .arity) .0)
@@ -186,6 +186,7 @@ four-args f w xs n h =
 
 -- ---- results on words
 
+-- a field as a number
 pub field-lt : (x : ℤ) (start end : ℕ) {v : ℕ} → v ≡ modℕ (shiftRight x start) (2 ^ (end - start)) → v < 2 ^ (end - start)
 field-lt x start end e =
     subst (λ (n : ℕ). n < 2 ^ (end - start)) (sym e) (modℕ-lt (shiftRight x start) (2 ^ (end - start)) (pow-pos (end - start)))
@@ -209,5 +210,4 @@ bit-number (suc (suc n)) h = absurd (omega arith)
 pub copy-sign : (w k bit : ℕ) (x : ℤ) → w ≡ suc k → bit ≤ 1
     → ofBits k (testbit x) (fill (eqb bit 1)) ≡ mod0 (copyBit x k (pos bit)) (pos (2 ^ w))
 copy-sign w k bit x h l =
-    extend-copyBit (eqb bit 1) x k
-    ∙ (rw (bit-number bit l, h))
+    extend-copyBit (eqb bit 1) x k ∙ rw (bit-number bit l, h)

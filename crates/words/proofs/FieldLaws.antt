@@ -15,7 +15,8 @@ use Rattle.bits.specs.Sign.{ofMagnitude}
 use Rattle.bits.specs.Shift.{floorDiv, shiftRight}
 use Rattle.bits.specs.Division.{modℕ}
 use Rattle.bits.specs.Field.{copyBitField}
-use Rattle.bits.proofs.FieldWords.{copyBitField-magnitude, setField-lt, reverseDigits}
+use Rattle.bits.proofs.FieldWords.{copyBitField-magnitude, setField-lt}
+use Rattle.bits.proofs.RotateWords.{reverseDigits}
 use Rattle.words.proofs.WordLaws.{back, mag-ofMagnitude}
 
 -- ---- sign and magnitude

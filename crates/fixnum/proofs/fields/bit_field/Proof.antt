@@ -6,7 +6,7 @@ use Prim.Native.Nat.{ℕ, _≤_, _<_}
 use lib.Dec.{lit<}
 use lib.IntN.{ℤ, pos, natAbs}
 use Rattle.bits.specs.Field.{bitField}
-use Rattle.bits.proofs.FieldWords.{bitField-number}
+use Rattle.bits.proofs.RotateWords.{bitField-number}
 use Rattle.words.proofs.WordLaws.{back}
 use Rattle.fixnum.specs.Answers.{done}
 use Rattle.fixnum.specs.Domains.{arg}

@@ -7,7 +7,7 @@ use Prim.Native.Nat.{ℕ, _-_, _≤_, _<_}
 use lib.Dec.{lit<}
 use lib.IntN.{ℤ, pos, natAbs}
 use Rattle.bits.specs.Field.{rotateBitField}
-use Rattle.bits.proofs.FieldWords.{rotate-put}
+use Rattle.bits.proofs.RotateWords.{rotate-put}
 use Rattle.words.proofs.WordLaws.{back}
 use Rattle.fixnum.specs.Answers.{done}
 use Rattle.fixnum.specs.Domains.{arg, rotation}

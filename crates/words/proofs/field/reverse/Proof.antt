@@ -5,7 +5,7 @@ use mathlib.Core.Path.{_≡_, ap, _∙_}
 use Prim.Native.Nat.{ℕ, _+_, _*_, _%_, _-_, _<_, _≤_, _^_}
 use lib.IntN.{pos}
 use lib.Pow.{pow-add, pow-mono}
-use Rattle.bits.proofs.FieldWords.{reverseDigits, reverse-digits}
+use Rattle.bits.proofs.RotateWords.{reverseDigits, reverse-digits}
 use Rattle.words.proofs.FieldLaws.{reverse-turn, reverse-end}
 use Rattle.words.proofs.field.reverse.Statement.{statement}
 use Rattle.words.proofs.field.reverse.Tie as tie

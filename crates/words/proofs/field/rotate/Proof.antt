@@ -6,7 +6,7 @@ use mathlib.Core.Path.{sym, ap, subst, _∙_}
 use Prim.Native.Nat.{ℕ, _+_, _*_, _/_, _-_, _<_, _^_}
 use lib.IntN.{pos}
 use lib.Pow.{pow-mono}
-use Rattle.bits.proofs.FieldWords.{rotate-digits, rotate-digits-lt}
+use Rattle.bits.proofs.RotateWords.{rotate-digits, rotate-digits-lt}
 use Rattle.words.proofs.field.rotate.Statement.{statement}
 use Rattle.words.proofs.field.rotate.Tie as tie
 
