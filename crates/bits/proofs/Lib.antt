@@ -13,6 +13,8 @@ pub mod ValueLaws
 pub mod FieldLaws
 pub mod FieldAlgebra
 pub mod RotateLaws
+pub mod FieldWords
+pub mod RotateWords
 pub mod Locality
 pub mod CountLaws
 pub mod ListTheorem

@@ -9,3 +9,4 @@ pub mod AnswerLaws
 pub mod Influence
 pub mod Demand3
 pub mod Cases
+pub mod FieldCalls

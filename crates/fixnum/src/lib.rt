@@ -15,6 +15,8 @@ mod counts;
 mod division;
 mod logical;
 mod loops;
+mod fields;
+mod rotation;
 
 use words::sign::absolute_fits;
 use words::sign::from_absolute;

@@ -2,3 +2,4 @@ pub mod WordLaws
 pub mod LogicalWords
 pub mod CountWords
 pub mod DivisionWords
+pub mod FieldLaws

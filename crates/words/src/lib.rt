@@ -3,4 +3,5 @@
 pub mod count;
 pub mod division;
 pub mod logical;
+pub mod field;
 pub mod sign;

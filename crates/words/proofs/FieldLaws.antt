@@ -1,0 +1,92 @@
+-- What the words of a field operation are, said of integers. Assumes nothing.
+use Prim.Native.Nat.{ℕ, zero, suc, _+_, _*_, _-_, _/_, _%_, _<_, _≤_, _^_}
+use native.Mathlib.Nat.{mod-lt}
+use native.Mathlib.Omega.{arith}
+use mathlib.Core.Path.{_≡_, refl, sym, ap, ap₂, _∙_, subst}
+use mathlib.Core.Bool.{Bool, true, false, not}
+use lib.Dec.{eqb}
+use lib.Pow.{split}
+use lib.IntN.{ℤ, pos, negsuc}
+use lib.Signed.{mag}
+use mir.Syntax.{w64}
+use mir.Val.{SFits, toZ, ofZ}
+use Rattle.bits.specs.Testbit.{odd, isNegative, testbit}
+use Rattle.bits.specs.Sign.{ofMagnitude}
+use Rattle.bits.specs.Shift.{floorDiv, shiftRight}
+use Rattle.bits.specs.Division.{modℕ}
+use Rattle.bits.specs.Field.{copyBitField}
+use Rattle.bits.proofs.FieldWords.{copyBitField-magnitude, setField-lt}
+use Rattle.bits.proofs.RotateWords.{reverseDigits}
+use Rattle.words.proofs.WordLaws.{back, mag-ofMagnitude}
+
+-- ---- sign and magnitude
+
+apart : (x : ℤ) → ofMagnitude (isNegative x) (mag x) ≡ x
+unfolding ofMagnitude isNegative
+apart (pos n) = refl
+apart (negsuc n) = refl
+
+-- a word from what `is_negative` and `magnitude` answered
+pub together : {x : ℤ} {negative : Bool} {m : ℕ} → SFits w64 x
+    → negative ≡ isNegative (toZ w64 (ofZ w64 x)) → m ≡ mag (toZ w64 (ofZ w64 x)) → ofMagnitude negative m ≡ x
+together {x} h p q = ap₂ ofMagnitude p q ∙ apart (toZ w64 (ofZ w64 x)) ∙ back h
+
+pub magnitude-lt : {x : ℤ} {m : ℕ} → SFits w64 x → m ≡ mag (toZ w64 (ofZ w64 x)) → m < 2 ^ 63
+magnitude-lt {x} h q = subst (λ (n : ℕ). n < 2 ^ 63) (sym (q ∙ ap mag (back h))) (h .sfits)
+
+pub magnitude-shiftRight : (negative : Bool) (m k : ℕ) → ofMagnitude negative (m / 2 ^ k) ≡ shiftRight (ofMagnitude negative m) k
+unfolding ofMagnitude shiftRight floorDiv
+magnitude-shiftRight true m k = refl
+magnitude-shiftRight false m k = refl
+
+-- ---- low bits, by the sign
+
+pub low-negative : {negative : Bool} (m k : ℕ) → negative ≡ true → 2 ^ k - 1 - m % 2 ^ k ≡ modℕ (ofMagnitude negative m) (2 ^ k)
+unfolding ofMagnitude modℕ
+low-negative {negative} m k e =
+    let s : 2 ^ k - 1 - m % 2 ^ k ≡ 2 ^ k - suc (m % 2 ^ k) = omega arith in
+    s ∙ sym (ap (λ (b : Bool). modℕ (ofMagnitude b m) (2 ^ k)) e)
+
+pub low-nonnegative : {negative : Bool} (m k : ℕ) → negative ≡ false → m % 2 ^ k ≡ modℕ (ofMagnitude negative m) (2 ^ k)
+unfolding ofMagnitude modℕ
+low-nonnegative {negative} m k e = sym (ap (λ (b : Bool). modℕ (ofMagnitude b m) (2 ^ k)) e)
+
+complement-bit : (n : ℕ) → n < 2 → eqb (2 - suc n) 1 ≡ not (eqb n 1)
+complement-bit zero h = refl
+complement-bit (suc zero) h = refl
+complement-bit (suc (suc n)) h = absurd (omega arith)
+
+-- one bit, as a number
+pub one-bit : (x : ℤ) (k : ℕ) → eqb (modℕ (shiftRight x k) (2 ^ 1)) 1 ≡ testbit x k
+unfolding modℕ shiftRight floorDiv testbit odd
+one-bit (pos n) k = refl
+one-bit (negsuc n) k = complement-bit (n / 2 ^ k % 2) (mod-lt (n / 2 ^ k) (omega arith))
+
+-- ---- a field replaced
+
+-- `new` is what the field of the magnitude gets
+module _ (negative : Bool) (m start end y : ℕ) {new : ℕ} (e : new ≡ modℕ (ofMagnitude negative y) (2 ^ (end - start))) (h : start ≤ end) where
+  pub replaced : ofMagnitude negative (m - m % 2 ^ end + new * 2 ^ start + m % 2 ^ start) ≡ copyBitField (ofMagnitude negative m) start end (pos y)
+  replaced =
+      (let d : m - m % 2 ^ end + new * 2 ^ start + m % 2 ^ start ≡ m / 2 ^ end * 2 ^ end + (new * 2 ^ start + m % 2 ^ start) = omega (arith, split m end) in
+      ap (ofMagnitude negative) d)
+      ∙ ap (λ (n : ℕ). ofMagnitude negative (m / 2 ^ end * 2 ^ end + (n * 2 ^ start + m % 2 ^ start))) e
+      ∙ copyBitField-magnitude negative m start end y h
+
+  pub replaced-lt : end < 64 → m < 2 ^ 63 → m - m % 2 ^ end + new * 2 ^ start + m % 2 ^ start < 2 ^ 63
+  unfolding copyBitField
+  replaced-lt l k =
+      subst (λ (n : ℕ). n < 2 ^ 63) (ap mag (sym replaced) ∙ mag-ofMagnitude negative (m - m % 2 ^ end + new * 2 ^ start + m % 2 ^ start))
+      (setField-lt (ofMagnitude negative m) start end (λ j. testbit (pos y) j) 63 (omega arith)
+      (subst (λ (n : ℕ). n < 2 ^ 63) (sym (mag-ofMagnitude negative m)) k))
+
+-- ---- a turn of the reversal, and its end
+
+pub reverse-turn : (size turn rest reversed : ℕ) → turn < size
+    → reverseDigits (size - (turn + 1)) (rest / 2) (reversed * 2 + rest % 2) ≡ reverseDigits (size - turn) rest reversed
+reverse-turn size turn rest reversed h =
+    let e : suc (size - (turn + 1)) ≡ size - turn = omega arith in ap (λ (k : ℕ). reverseDigits k rest reversed) e
+
+pub reverse-end : (size turn rest reversed : ℕ) → size ≤ turn → reversed ≡ reverseDigits (size - turn) rest reversed
+reverse-end size turn rest reversed h =
+    let e : 0 ≡ size - turn = omega arith in ap (λ (k : ℕ). reverseDigits k rest reversed) e
