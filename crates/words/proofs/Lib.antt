@@ -1,1 +1,4 @@
 pub mod WordLaws
+pub mod SignedLaws
+pub mod Columns
+pub mod WideLaws
