@@ -20,7 +20,7 @@ word-halves a b h k =
       low-low = halves (a % 2 ^ 32) (b % 2 ^ 32) (omega arith) (omega arith);
       high-low = halves (a / 2 ^ 32) (b % 2 ^ 32) (omega arith) (omega arith);
       low-high = halves (a % 2 ^ 32) (b / 2 ^ 32) (omega arith) (omega arith);
-      high-high = halves (a / 2 ^ 32) (b / 2 ^ 32) (omega arith) (omega arith)
+      high-high = halves (a / 2 ^ 32) (b / 2 ^ 32) (omega arith) (omega arith);
     }
 
 -- the columns are those of the four products of halves

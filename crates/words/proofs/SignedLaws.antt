@@ -1,7 +1,7 @@
 -- Sums, differences and products of integers given by their signs and absolute values. Assumes nothing.
 use Prim.Native.Nat.{ℕ, zero, suc, _+_, _*_, _-_, _≤_}
 use mathlib.Core.Path.{_≡_, refl, sym, ap, ap₂, _∙_}
-use mathlib.Core.Bool.{Bool, true, false, not, xor}
+use mathlib.Core.Bool.{Bool, true, false, not, xor, Bool·beq}
 use lib.IntN.{ℤ, pos, negsuc, negℤ, natAbs, negℤ-negℤ, negℤ-+ℤ, _+ℤ_, _*ℤ_, zero-*ℤ, *ℤ-comm}
 use mir.Syntax.{w64}
 use mir.Val.{SFits, toZ, ofZ}
@@ -61,3 +61,16 @@ withSign-mul false false m n = refl
 -- a word that was taken apart
 pub rejoin : {x : ℤ} {b : Bool} {n : ℕ} → SFits w64 x → b ≡ isNegative (toZ w64 (ofZ w64 x)) → n ≡ natAbs (toZ w64 (ofZ w64 x)) → withSign b n ≡ x
 rejoin {x} h p q = ap₂ withSign p q ∙ withSign-natAbs (toZ w64 (ofZ w64 x)) ∙ back h
+
+-- two signs compared
+pub signs-same : (b c : Bool) → Bool·beq b c ≡ true → b ≡ c
+signs-same true true e = refl
+signs-same true false e = sym e
+signs-same false true e = e
+signs-same false false e = refl
+
+pub signs-differ : (b c : Bool) → Bool·beq b c ≡ false → not b ≡ c
+signs-differ true true e = sym e
+signs-differ true false e = refl
+signs-differ false true e = refl
+signs-differ false false e = e

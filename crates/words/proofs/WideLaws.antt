@@ -1,14 +1,48 @@
--- Sums of an integer of two words and one of one word, by the signs and the carry. Assumes nothing.
-use Prim.Native.Nat.{ℕ, _+_, _*_, _-_, _≤_, _<_, _^_}
+-- Integers of two words: the absolute value, and what the sum with a word of either sign is. Assumes nothing.
+use Prim.Native.Nat.{ℕ, _+_, _*_, _-_, _/_, _≤_, _<_, _^_}
+use native.Mathlib.Nat.{lt-of-le-of-lt}
 use native.Mathlib.Omega.{arith}
-use mathlib.Core.Path.{_≡_, refl, sym, ap, _∙_}
-use mathlib.Core.Bool.{Bool, true, false, not}
-use lib.IntN.{ℤ, pos, natAbs, _+ℤ_}
+use mathlib.Core.Path.{_≡_, ap, _∙_, subst}
+use mathlib.Core.Bool.{Bool, not}
+use lib.Pow.{shr-lt}
+use lib.IntN.{natAbs, _+ℤ_, +ℤ-comm}
 use Rattle.bits.specs.Sign.{withSign}
+use Rattle.bits.proofs.Booleans.{not-not}
 use Rattle.words.specs.declared.wide.Wide.{Wide}
 use Rattle.words.specs.Wide.{wideValue}
+use Rattle.words.proofs.SignedLaws.{natAbs-withSign, withSign-add, withSign-sub}
+
+pub wide-absolute : (s : Wide) → natAbs (wideValue s) ≡ s .high * 2 ^ 64 + s .low
+unfolding wideValue
+wide-absolute s = natAbs-withSign (s .negative) (s .high * 2 ^ 64 + s .low)
 
 -- an integer of one word
 pub one-word : (b : Bool) (n : ℕ) → wideValue record { negative = b; high = 0; low = n } ≡ withSign b n
 unfolding wideValue
 one-word b n = let e : 0 * 2 ^ 64 + n ≡ n = omega arith in ap (withSign b) e
+
+-- n has the sign of m; the other sign and is at most m; the other sign and is at least m
+pub sum-same : (b : Bool) (sum m n : ℕ) → sum ≡ m + n → withSign b sum ≡ withSign b m +ℤ withSign b n
+sum-same b sum m n e = ap (withSign b) e ∙ withSign-add b m n
+
+pub sum-less : (b : Bool) (sum m n : ℕ) → sum + n ≡ m → withSign b sum ≡ withSign b m +ℤ withSign (not b) n
+sum-less b sum m n e = let d : sum ≡ m - n = omega arith in ap (withSign b) d ∙ withSign-sub b m n (omega arith)
+
+pub sum-across : (b : Bool) (sum m n : ℕ) → sum + m ≡ n → withSign (not b) sum ≡ withSign b m +ℤ withSign (not b) n
+sum-across b sum m n e =
+    sum-less (not b) sum n m e ∙ ap (λ (a : Bool). withSign (not b) n +ℤ withSign a m) (not-not b) ∙ +ℤ-comm (withSign (not b) n) (withSign b m)
+
+-- on words: n is above the low word, and the high word is 0, or lends
+pub lend-none : (high low n : ℕ) → high ≡ 0 → low < n → 0 * 2 ^ 64 + (n - low) + (high * 2 ^ 64 + low) ≡ n
+lend-none high low n e h = omega arith
+
+pub lend : (high low n : ℕ) → 0 < high → low < n → n < 2 ^ 64
+    → (high - 1) * 2 ^ 64 + (18446744073709551615 - (n - low - 1)) + n ≡ high * 2 ^ 64 + low
+lend high low n p h k = omega arith
+
+-- the bound on the high word
+pub wide-high : (s : Wide) (k : ℕ) → natAbs (wideValue s) < 2 ^ (k + 64) → s .high < 2 ^ k
+wide-high s k h = lt-of-le-of-lt (at-least (s .high) (s .low)) (shr-lt k 64 (subst (λ (n : ℕ). n < 2 ^ (k + 64)) (wide-absolute s) h))
+  where
+    at-least : (high low : ℕ) → high ≤ (high * 2 ^ 64 + low) / 2 ^ 64
+    at-least high low = omega arith

@@ -1,40 +1,37 @@
+-- `words::wide::shrink` meets its contract. Assumes nothing.
+use native.Mathlib.Omega.{arith}
+use Rattle.words.specs.Wide.{wideValue}
+use Rattle.words.proofs.WideLaws.{sum-less, sum-across, lend-none, lend}
 use borrow.Author.Needs.{needs}
 use Rattle.words.proofs.wide.shrink.Statement.{statement}
 use Rattle.words.proofs.wide.shrink.Tie as tie
-use Rattle.words.proofs.wide.shrink.Reads as reads
-use Rattle.words.proofs.wide.shrink.Lts as lts
 
--- src/wide.rt:86:18
 sub-t9 : tie.Need-sub-t9
 sub-t9 c = search needs
 
--- src/wide.rt:91:19
 sub-t10 : tie.Need-sub-t10
 sub-t10 c = search needs
 
--- src/wide.rt:92:43
 sub-t11 : tie.Need-sub-t11
 sub-t11 c = search needs
 
--- src/wide.rt:92:43
 sub-t12 : tie.Need-sub-t12
 sub-t12 c = search needs
 
--- src/wide.rt:92:18
 sub-t13 : tie.Need-sub-t13
 sub-t13 c = search needs
 
--- src/wide.rt:73:1
 returns : tie.Need-returns
-returns c = ?
+unfolding wideValue
+returns c = sum-less _ _ _ _ (omega arith)
 
--- src/wide.rt:73:1
 returns-2 : tie.Need-returns-2
-returns-2 c = ?
+unfolding wideValue
+returns-2 c = sum-across _ _ _ _ (lend-none _ _ _ (omega arith) (omega arith))
 
--- src/wide.rt:73:1
 returns-3 : tie.Need-returns-3
-returns-3 c = ?
+unfolding wideValue
+returns-3 c = sum-less _ _ _ _ (lend _ _ _ (omega arith) (omega arith) (omega arith))
 
 pub shrink-spec : {M : Type 1} → statement M
 shrink-spec =
