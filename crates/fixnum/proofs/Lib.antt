@@ -1,2 +1,4 @@
 pub mod CallLaws
 pub mod Cases
+pub mod DispatchLaws
+pub mod ArithmeticLaws

@@ -7,6 +7,8 @@ ghost use Rattle.fixnum.specs.Answers as answers;
 ghost use Rattle.fixnum.specs.Domains.{isWidth};
 ghost use Rattle.fixnum.specs.Calls as calls;
 
+mod arithmetic;
+mod exact;
 mod logical;
 
 use words::sign::absolute_fits;

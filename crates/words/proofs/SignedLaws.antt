@@ -1,8 +1,11 @@
 -- Sums, differences and products of integers given by their signs and absolute values. Assumes nothing.
 use Prim.Native.Nat.{ℕ, zero, suc, _+_, _*_, _-_, _≤_}
+use native.Mathlib.Nat.{le-refl}
+use native.Mathlib.Omega.{arith}
 use mathlib.Core.Path.{_≡_, refl, sym, ap, ap₂, _∙_}
-use mathlib.Core.Bool.{Bool, true, false, not, xor, Bool·beq}
-use lib.IntN.{ℤ, pos, negsuc, negℤ, natAbs, negℤ-negℤ, negℤ-+ℤ, _+ℤ_, _*ℤ_, zero-*ℤ, *ℤ-comm}
+use mathlib.Core.Bool.{Bool, true, false, not, cond, xor, Bool·beq}
+use lib.Dec.{ltb}
+use lib.IntN.{ℤ, pos, negsuc, negℤ, natAbs, subℕ, negℤ-negℤ, negℤ-+ℤ, _+ℤ_, _-ℤ_, _*ℤ_, zero-*ℤ, *ℤ-comm}
 use mir.Syntax.{w64}
 use mir.Val.{SFits, toZ, ofZ}
 use Rattle.bits.specs.Testbit.{isNegative}
@@ -57,6 +60,34 @@ withSign-mul true true m n =
 withSign-mul true false m n = sym (negℤ-*ℤ-l (pos m) (pos n))
 withSign-mul false true m n = sym (negℤ-*ℤ-r (pos m) (pos n))
 withSign-mul false false m n = refl
+
+-- the absolute value of a sum and of a product
+natAbs-subℕ : (a b : ℕ) → natAbs (subℕ a (suc b)) ≤ a + suc b
+natAbs-subℕ a b = by-test (ltb a (suc b))
+  where
+    by-test : (t : Bool) → natAbs (cond t (negsuc (suc b - suc a)) (pos (a - suc b))) ≤ a + suc b
+    by-test true = omega arith
+    by-test false = omega arith
+
+pub natAbs-add : (x y : ℤ) → natAbs (x +ℤ y) ≤ natAbs x + natAbs y
+natAbs-add (pos m) (pos n) = le-refl (m + n)
+natAbs-add (pos m) (negsuc n) = natAbs-subℕ m n
+natAbs-add (negsuc m) (pos n) = let h = natAbs-subℕ n m in omega arith
+natAbs-add (negsuc m) (negsuc n) = omega arith
+
+pub natAbs-negℤ : (x : ℤ) → natAbs (negℤ x) ≡ natAbs x
+natAbs-negℤ (pos zero) = refl
+natAbs-negℤ (pos (suc n)) = refl
+natAbs-negℤ (negsuc n) = refl
+
+pub natAbs-sub : (x y : ℤ) → natAbs (x -ℤ y) ≤ natAbs x + natAbs y
+natAbs-sub x y = omega (arith, natAbs-add x (negℤ y), natAbs-negℤ y)
+
+pub natAbs-mul : (x y : ℤ) → natAbs (x *ℤ y) ≡ natAbs x * natAbs y
+natAbs-mul (pos m) (pos n) = refl
+natAbs-mul (pos m) (negsuc n) = natAbs-negℤ (pos (m * suc n))
+natAbs-mul (negsuc m) (pos n) = natAbs-negℤ (pos (suc m * n))
+natAbs-mul (negsuc m) (negsuc n) = refl
 
 -- a word that was taken apart
 pub rejoin : {x : ℤ} {b : Bool} {n : ℕ} → SFits w64 x → b ≡ isNegative (toZ w64 (ofZ w64 x)) → n ≡ natAbs (toZ w64 (ofZ w64 x)) → withSign b n ≡ x

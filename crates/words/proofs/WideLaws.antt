@@ -2,14 +2,21 @@
 use Prim.Native.Nat.{ℕ, _+_, _*_, _-_, _/_, _≤_, _<_, _^_}
 use native.Mathlib.Nat.{lt-of-le-of-lt}
 use native.Mathlib.Omega.{arith}
-use mathlib.Core.Path.{_≡_, ap, _∙_, subst}
-use mathlib.Core.Bool.{Bool, not}
-use lib.Pow.{shr-lt}
-use lib.IntN.{natAbs, _+ℤ_, +ℤ-comm}
+use mathlib.Core.Path.{_≡_, sym, ap, _∙_, subst}
+use mathlib.Core.Bool.{Bool, false, not}
+use lib.Dec.{lit<}
+use lib.Pow.{pow-mono, shr-lt}
+use lib.IntN.{ℤ, pos, negsuc, natAbs, _+ℤ_, +ℤ-comm}
+use lib.Signed.{natAbs-le}
+use mir.Syntax.{w64}
+use mir.Val.{SFits, toZ, ofZ}
+use borrow.Author.Tests.{le-ltb}
+use Rattle.bits.specs.Testbit.{fits}
 use Rattle.bits.specs.Sign.{withSign}
 use Rattle.bits.proofs.Booleans.{not-not}
 use Rattle.words.specs.declared.wide.Wide.{Wide}
 use Rattle.words.specs.Wide.{wideValue}
+use Rattle.words.proofs.WordLaws.{back}
 use Rattle.words.proofs.SignedLaws.{natAbs-withSign, withSign-add, withSign-sub}
 
 pub wide-absolute : (s : Wide) → natAbs (wideValue s) ≡ s .high * 2 ^ 64 + s .low
@@ -46,3 +53,22 @@ wide-high s k h = lt-of-le-of-lt (at-least (s .high) (s .low)) (shr-lt k 64 (sub
   where
     at-least : (high low : ℕ) → high ≤ (high * 2 ^ 64 + low) / 2 ^ 64
     at-least high low = omega arith
+
+-- the integer of a word leaves room for sums
+pub word-room : {x : ℤ} (s : Wide) → SFits w64 x → wideValue s ≡ toZ w64 (ofZ w64 x) → natAbs (wideValue s) < 2 ^ 127
+word-room {x} s h e =
+    lt-of-le-of-lt (subst (λ (y : ℤ). natAbs y ≤ 2 ^ 63) (sym (e ∙ back h)) (natAbs-le x (h .sfits))) (lit< tt)
+
+-- an integer with a high word that is not 0 is no fixnum at any width
+high-large : (w : ℕ) (x : ℤ) → 2 ^ (w - 1) < natAbs x → fits w x ≡ false
+unfolding fits
+high-large w (pos n) h = le-ltb n (2 ^ (w - 1)) (omega arith)
+high-large w (negsuc n) h = le-ltb n (2 ^ (w - 1)) (omega arith)
+
+pub two-words-large : (w : ℕ) (s : Wide) → w ≤ 64 → (s .high ≡ 0 → ⊥) → fits w (wideValue s) ≡ false
+two-words-large w s h k =
+    high-large w (wideValue s) (lt-of-le-of-lt (pow-mono {j = 63} (omega arith)) (subst (λ (n : ℕ). 2 ^ 63 < n) (sym (wide-absolute s)) (omega arith)))
+
+pub one-word-value : (s : Wide) → s .high ≡ 0 → withSign (s .negative) (s .low) ≡ wideValue s
+unfolding wideValue
+one-word-value s e = let d : s .low ≡ s .high * 2 ^ 64 + s .low = omega arith in ap (withSign (s .negative)) d
