@@ -2,3 +2,4 @@ pub mod WordLaws
 pub mod SignedLaws
 pub mod Columns
 pub mod WideLaws
+pub mod PartLaws

@@ -61,6 +61,11 @@ withSign-mul true false m n = sym (negℤ-*ℤ-l (pos m) (pos n))
 withSign-mul false true m n = sym (negℤ-*ℤ-r (pos m) (pos n))
 withSign-mul false false m n = refl
 
+pub withSign-times : (b : Bool) (m n : ℕ) → withSign b (m * n) ≡ withSign b m *ℤ pos n
+unfolding withSign
+withSign-times true m n = sym (negℤ-*ℤ-l (pos m) (pos n))
+withSign-times false m n = refl
+
 -- the absolute value of a sum and of a product
 natAbs-subℕ : (a b : ℕ) → natAbs (subℕ a (suc b)) ≤ a + suc b
 natAbs-subℕ a b = by-test (ltb a (suc b))

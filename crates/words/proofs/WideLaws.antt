@@ -23,6 +23,10 @@ pub wide-absolute : (s : Wide) → natAbs (wideValue s) ≡ s .high * 2 ^ 64 + s
 unfolding wideValue
 wide-absolute s = natAbs-withSign (s .negative) (s .high * 2 ^ 64 + s .low)
 
+pub wide-sign : (s : Wide) → withSign (s .negative) (natAbs (wideValue s)) ≡ wideValue s
+unfolding wideValue
+wide-sign s = ap (withSign (s .negative)) (wide-absolute s)
+
 -- an integer of one word
 pub one-word : (b : Bool) (n : ℕ) → wideValue record { negative = b; high = 0; low = n } ≡ withSign b n
 unfolding wideValue
