@@ -2,3 +2,4 @@ pub mod CallLaws
 pub mod Cases
 pub mod DispatchLaws
 pub mod ArithmeticLaws
+pub mod CarryLaws

@@ -8,6 +8,7 @@ ghost use Rattle.fixnum.specs.Domains.{isWidth};
 ghost use Rattle.fixnum.specs.Calls as calls;
 
 mod arithmetic;
+mod carry;
 mod exact;
 mod logical;
 

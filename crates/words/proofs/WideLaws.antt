@@ -1,23 +1,22 @@
 -- Integers of two words: the absolute value, and what the sum with a word of either sign is. Assumes nothing.
 use Prim.Native.Nat.{ℕ, _+_, _*_, _-_, _/_, _≤_, _<_, _^_}
-use native.Mathlib.Nat.{lt-of-le-of-lt}
+use native.Mathlib.Nat.{lt-of-le-of-lt, mul-le-mul}
 use native.Mathlib.Omega.{arith}
 use mathlib.Core.Path.{_≡_, sym, ap, _∙_, subst}
 use mathlib.Core.Bool.{Bool, false, not}
 use lib.Dec.{lit<}
 use lib.Pow.{pow-mono, shr-lt}
-use lib.IntN.{ℤ, pos, negsuc, natAbs, _+ℤ_, +ℤ-comm}
+use lib.IntN.{ℤ, pos, negsuc, natAbs, _+ℤ_, _-ℤ_, _*ℤ_, +ℤ-comm}
 use lib.Signed.{natAbs-le}
 use mir.Syntax.{w64}
-use mir.Val.{SFits, toZ, ofZ}
+use mir.Val.{SFits}
 use borrow.Author.Tests.{le-ltb}
 use Rattle.bits.specs.Testbit.{fits}
 use Rattle.bits.specs.Sign.{withSign}
 use Rattle.bits.proofs.Booleans.{not-not}
 use Rattle.words.specs.declared.wide.Wide.{Wide}
 use Rattle.words.specs.Wide.{wideValue}
-use Rattle.words.proofs.WordLaws.{back}
-use Rattle.words.proofs.SignedLaws.{natAbs-withSign, withSign-add, withSign-sub}
+use Rattle.words.proofs.SignedLaws.{natAbs-withSign, withSign-add, withSign-sub, natAbs-add, natAbs-sub, natAbs-mul}
 
 pub wide-absolute : (s : Wide) → natAbs (wideValue s) ≡ s .high * 2 ^ 64 + s .low
 unfolding wideValue
@@ -58,10 +57,23 @@ wide-high s k h = lt-of-le-of-lt (at-least (s .high) (s .low)) (shr-lt k 64 (sub
     at-least : (high low : ℕ) → high ≤ (high * 2 ^ 64 + low) / 2 ^ 64
     at-least high low = omega arith
 
--- the integer of a word leaves room for sums
-pub word-room : {x : ℤ} (s : Wide) → SFits w64 x → wideValue s ≡ toZ w64 (ofZ w64 x) → natAbs (wideValue s) < 2 ^ 127
-word-room {x} s h e =
-    lt-of-le-of-lt (subst (λ (y : ℤ). natAbs y ≤ 2 ^ 63) (sym (e ∙ back h)) (natAbs-le x (h .sfits))) (lit< tt)
+-- ---- what leaves room for a further sum: a word, and a sum, difference or product of two words
+
+room : (s : Wide) (x : ℤ) → natAbs x ≤ 2 ^ 126 → wideValue s ≡ x → natAbs (wideValue s) < 2 ^ 127
+room s x h e = lt-of-le-of-lt (subst (λ (y : ℤ). natAbs y ≤ 2 ^ 126) (sym e) h) (lit< tt)
+
+pub word-room : (s : Wide) (x : ℤ) → SFits w64 x → wideValue s ≡ x → natAbs (wideValue s) < 2 ^ 127
+word-room s x h e = let l = natAbs-le x (h .sfits) in room s x (omega arith) e
+
+pub sum-room : (s : Wide) (x y : ℤ) → SFits w64 x → SFits w64 y → wideValue s ≡ x +ℤ y → natAbs (wideValue s) < 2 ^ 127
+sum-room s x y h k e = room s (x +ℤ y) (omega (arith, natAbs-add x y, natAbs-le x (h .sfits), natAbs-le y (k .sfits))) e
+
+pub difference-room : (s : Wide) (x y : ℤ) → SFits w64 x → SFits w64 y → wideValue s ≡ x -ℤ y → natAbs (wideValue s) < 2 ^ 127
+difference-room s x y h k e = room s (x -ℤ y) (omega (arith, natAbs-sub x y, natAbs-le x (h .sfits), natAbs-le y (k .sfits))) e
+
+pub product-room : (s : Wide) (x y : ℤ) → SFits w64 x → SFits w64 y → wideValue s ≡ x *ℤ y → natAbs (wideValue s) < 2 ^ 127
+product-room s x y h k e =
+    room s (x *ℤ y) (subst (λ (n : ℕ). n ≤ 2 ^ 126) (sym (natAbs-mul x y)) (mul-le-mul (natAbs-le x (h .sfits)) (natAbs-le y (k .sfits)))) e
 
 -- an integer with a high word that is not 0 is no fixnum at any width
 high-large : (w : ℕ) (x : ℤ) → 2 ^ (w - 1) < natAbs x → fits w x ≡ false

@@ -24,7 +24,8 @@ add-word-requires : tie.Need-add-word-requires
 unfolding arg
 add-word-requires c κs =
     let a = c .before .before .before in
-    word-room (c .widen .result) (place (a .args .t2) 0 (c .before .before .x .given)) (c .widen .ensures)
+    let x = place (a .args .t2) 0 (c .before .before .x .given) in
+    word-room (c .widen .result) _ x (c .widen .ensures ∙ back x)
 
 exact-requires : tie.Need-exact-requires
 exact-requires c κs = search needs
