@@ -13,7 +13,7 @@ use Rattle.fixnum.specs.Table.{rows, rowOf}
 use Rattle.fixnum.specs.Calls.{Accepted, counted, isCount, sized, outcome}
 use Rattle.fixnum.proofs.CallLaws.{between, arg-exactly}
 
-two-counted : (f : ℤ → ℤ → ℤ) (w : ℕ) (xs : List ℤ) (n : ℕ) → leb 2 n && leb n 2 ≡ true → two f w (counted xs n) ≡ (f (arg xs 0) (arg xs 1), pos 0)
+pub two-counted : (f : ℤ → ℤ → ℤ) (w : ℕ) (xs : List ℤ) (n : ℕ) → leb 2 n && leb n 2 ≡ true → two f w (counted xs n) ≡ (f (arg xs 0) (arg xs 1), pos 0)
 unfolding two
 two-counted f w xs n h = rw (arg-exactly xs 2 n 0 h (lit< tt), arg-exactly xs 2 n 1 h (lit< tt))
 

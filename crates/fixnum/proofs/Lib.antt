@@ -3,3 +3,4 @@ pub mod Cases
 pub mod DispatchLaws
 pub mod ArithmeticLaws
 pub mod CarryLaws
+pub mod ShiftLaws

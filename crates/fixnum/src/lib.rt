@@ -11,6 +11,7 @@ mod arithmetic;
 mod carry;
 mod exact;
 mod logical;
+mod shifts;
 
 use words::sign::absolute_fits;
 use words::sign::from_absolute;

@@ -24,8 +24,8 @@ pub fn widen(x: i64) -> Wide
     }
 }
 
-// By halves of 32 bits, in columns: each sum below is at most 2^64 - 1.
-fn multiply(negative: bool, a: u64, b: u64) -> Wide
+// a * b, by halves of 32 bits, in columns: each sum below is at most 2^64 - 1.
+pub fn multiply(negative: bool, a: u64, b: u64) -> Wide
     ensures { λ r. ⌜ wideValue r ≡ withSign negative (a * b) ⌝ }
 {
     let a0 = a % 0x1_0000_0000;
