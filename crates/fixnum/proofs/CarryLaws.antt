@@ -12,7 +12,7 @@ use lib.Signed.{natAbs-le}
 use Rattle.bits.specs.Division.{div0, mod0}
 use Rattle.words.proofs.WordLaws.{fits-mag}
 use Rattle.words.proofs.SignedLaws.{natAbs-add, natAbs-sub, natAbs-mul}
-use Rattle.fixnum.specs.Domains.{arg}
+use Rattle.fixnum.specs.Domains.{isWidth, arg}
 use Rattle.fixnum.specs.Operations.{carry}
 use Rattle.fixnum.specs.Table.{rows, rowOf}
 use Rattle.fixnum.specs.Calls.{Accepted, counted, isCount, allFixnums, sized, outcome}
@@ -59,33 +59,22 @@ square w n h k l =
     let e : 62 + w ≡ suc (suc (60 + w)) = omega arith in
     rw e (omega (arith, pow-pos (60 + w), pow-suc 2 (60 + w), pow-suc 2 (suc (60 + w))))
 
-module _ (w : ℕ) (x y z : ℤ) (p : natAbs x ≤ 2 ^ (w - 1)) (q : natAbs y ≤ 2 ^ (w - 1)) (r : natAbs z ≤ 2 ^ (w - 1)) where
-  sum-size : natAbs ((x +ℤ y) +ℤ z) < 2 ^ (62 + w)
-  sum-size = three-halves w (natAbs ((x +ℤ y) +ℤ z)) (omega (arith, natAbs-add (x +ℤ y) z, natAbs-add x y))
+-- three arguments of an accepted call
+module _ (w : ℕ) (xs : List ℤ) (n : ℕ) (width : isWidth w ≡ true) (fixnums : allFixnums w (counted xs n) ≡ true) (arity : leb 3 n && leb n 3 ≡ true) where
+  absolute-at : (i : ℕ) → i < 3 → natAbs (arg xs i) ≤ 2 ^ (w - 1)
+  absolute-at i h =
+      natAbs-le (arg xs i) (fits-mag w (arg xs i) (fits-arg w xs n i fixnums (subst (λ (m : ℕ). i < m) (sym (exactly 3 n arity)) h)))
 
-  difference-size : natAbs ((x -ℤ y) -ℤ z) < 2 ^ (62 + w)
-  difference-size = three-halves w (natAbs ((x -ℤ y) -ℤ z)) (omega (arith, natAbs-sub (x -ℤ y) z, natAbs-sub x y))
+  absolutes : (natAbs (arg xs 0) ≤ 2 ^ (w - 1)) × (natAbs (arg xs 1) ≤ 2 ^ (w - 1)) × (natAbs (arg xs 2) ≤ 2 ^ (w - 1))
+  absolutes = (absolute-at 0 (lit< tt), absolute-at 1 (lit< tt), absolute-at 2 (lit< tt))
 
-  product-size : (1 ≤ w) × (w ≤ 62) → natAbs ((x *ℤ y) +ℤ z) < 2 ^ (62 + w)
-  product-size h = square w (natAbs ((x *ℤ y) +ℤ z)) (h .0) (h .1) (omega (arith, natAbs-add (x *ℤ y) z, natAbs-mul x y, mul-le-mul p q))
+  pub sum-size : natAbs ((arg xs 0 +ℤ arg xs 1) +ℤ arg xs 2) < 2 ^ (62 + w)
+  sum-size = three-halves w (natAbs ((arg xs 0 +ℤ arg xs 1) +ℤ arg xs 2)) (omega (arith, absolutes, natAbs-add (arg xs 0 +ℤ arg xs 1) (arg xs 2), natAbs-add (arg xs 0) (arg xs 1)))
 
--- each of three arguments of an accepted call
-absolute-at : (w : ℕ) (xs : List ℤ) (n i : ℕ) → allFixnums w (counted xs n) ≡ true → leb 3 n && leb n 3 ≡ true → i < 3 → natAbs (arg xs i) ≤ 2 ^ (w - 1)
-absolute-at w xs n i a h k =
-    natAbs-le (arg xs i) (fits-mag w (arg xs i) (fits-arg w xs n i a (subst (λ (m : ℕ). i < m) (sym (exactly 3 n h)) k)))
+  pub difference-size : natAbs ((arg xs 0 -ℤ arg xs 1) -ℤ arg xs 2) < 2 ^ (62 + w)
+  difference-size = three-halves w (natAbs ((arg xs 0 -ℤ arg xs 1) -ℤ arg xs 2)) (omega (arith, absolutes, natAbs-sub (arg xs 0 -ℤ arg xs 1) (arg xs 2), natAbs-sub (arg xs 0) (arg xs 1)))
 
-pub plus-carry-size : (w : ℕ) (xs : List ℤ) (n : ℕ) → Accepted w 22 xs n → natAbs ((arg xs 0 +ℤ arg xs 1) +ℤ arg xs 2) < 2 ^ (62 + w)
-unfolding isCount rowOf rows
-plus-carry-size w xs n a =
-    sum-size w (arg xs 0) (arg xs 1) (arg xs 2) (absolute-at w xs n 0 (a .fixnums) (a .arity) (lit< tt)) (absolute-at w xs n 1 (a .fixnums) (a .arity) (lit< tt)) (absolute-at w xs n 2 (a .fixnums) (a .arity) (lit< tt))
-
-pub minus-carry-size : (w : ℕ) (xs : List ℤ) (n : ℕ) → Accepted w 23 xs n → natAbs ((arg xs 0 -ℤ arg xs 1) -ℤ arg xs 2) < 2 ^ (62 + w)
-unfolding isCount rowOf rows
-minus-carry-size w xs n a =
-    difference-size w (arg xs 0) (arg xs 1) (arg xs 2) (absolute-at w xs n 0 (a .fixnums) (a .arity) (lit< tt)) (absolute-at w xs n 1 (a .fixnums) (a .arity) (lit< tt)) (absolute-at w xs n 2 (a .fixnums) (a .arity) (lit< tt))
-
-pub times-carry-size : (w : ℕ) (xs : List ℤ) (n : ℕ) → Accepted w 24 xs n → natAbs ((arg xs 0 *ℤ arg xs 1) +ℤ arg xs 2) < 2 ^ (62 + w)
-unfolding isCount rowOf rows
-times-carry-size w xs n a =
-    let b = width-bounds w (a .width) in
-    product-size w (arg xs 0) (arg xs 1) (arg xs 2) (absolute-at w xs n 0 (a .fixnums) (a .arity) (lit< tt)) (absolute-at w xs n 1 (a .fixnums) (a .arity) (lit< tt)) (absolute-at w xs n 2 (a .fixnums) (a .arity) (lit< tt)) (omega arith)
+  pub product-size : natAbs ((arg xs 0 *ℤ arg xs 1) +ℤ arg xs 2) < 2 ^ (62 + w)
+  product-size =
+      let b = width-bounds w width in
+      square w (natAbs ((arg xs 0 *ℤ arg xs 1) +ℤ arg xs 2)) (omega arith) (omega arith) (omega (arith, absolutes, natAbs-add (arg xs 0 *ℤ arg xs 1) (arg xs 2), natAbs-mul (arg xs 0) (arg xs 1), mul-le-mul (absolute-at 0 (lit< tt)) (absolute-at 1 (lit< tt))))

@@ -2,9 +2,9 @@
 use Prim.Native.Nat.{ℕ, zero, suc, _*_, _-_, _/_, _≤_, _<_, _^_}
 use native.Mathlib.Nat.{lt-of-le-of-lt}
 use native.Mathlib.Omega.{arith}
-use mathlib.Core.Path.{_≡_, refl, sym, ap, _∙_, subst}
+use mathlib.Core.Path.{_≡_, refl, ap, _∙_, subst}
 use mathlib.Core.Bool.{Bool, true, false, _&&_}
-use mathlib.Core.List.{List}
+use mathlib.Core.List.{List, [], _∷_}
 use lib.Dec.{leb, lit<}
 use lib.IntN.{ℤ, pos, negsuc, negℤ, natAbs, _*ℤ_}
 use lib.Pow.{shr-le}
@@ -16,8 +16,7 @@ use Rattle.bits.specs.Shift.{floorDiv, shiftLeft, shiftRight, arithmeticShift}
 use Rattle.words.proofs.WordLaws.{fits-mag}
 use Rattle.words.proofs.SignedLaws.{withSign-times}
 use Rattle.fixnum.specs.Answers.{done, unless}
-use Rattle.fixnum.specs.Domains.{isWidth, arg, within, accepts, inDomainsFrom, inDomains}
-use Rattle.fixnum.specs.Operations.{two}
+use Rattle.fixnum.specs.Domains.{isWidth, arg, within, fixnum, distance, signedDistance, accepts, inDomainsFrom, inDomains}
 use Rattle.fixnum.specs.Table.{rows, rowOf}
 use Rattle.fixnum.specs.Calls.{Accepted, counted, isCount, sized, outcome}
 use Rattle.fixnum.proofs.CallLaws.{both-left, both-right, width-bounds, exactly, arg-exactly, fits-arg}
@@ -79,32 +78,29 @@ either-fixnum w xs n a = let e = exactly 2 n (a .arity) in fits-arg w xs n 0 (a 
 
 -- ---- the distance
 
-signed-distance : (m : ℕ) (d : ℤ) → within (negℤ (pos m)) d (pos m) ≡ true → natAbs d ≤ m
+within-both : (m : ℕ) (d : ℤ) → within (negℤ (pos m)) d (pos m) ≡ true → natAbs d ≤ m
 unfolding within
-signed-distance m (pos n) h = leb-true n m (both-right (leZ (negℤ (pos m)) (pos n)) (leb n m) h)
-signed-distance zero (negsuc n) h = let z : _≡_ {A = ℕ} 0 1 = cc in absurd (omega arith)
-signed-distance (suc m) (negsuc n) h = let l = leb-true n m (both-left (leb n m) true h) in omega arith
+within-both m (pos n) h = leb-true n m (both-right (leZ (negℤ (pos m)) (pos n)) (leb n m) h)
+within-both zero (negsuc n) h = let z : _≡_ {A = ℕ} 0 1 = cc in absurd (omega arith)
+within-both (suc m) (negsuc n) h = let l = leb-true n m (both-left (leb n m) true h) in omega arith
 
-distance-from-zero : (m : ℕ) (d : ℤ) → within (pos 0) d (pos m) ≡ true → natAbs d ≤ m
+within-zero : (m : ℕ) (d : ℤ) → within (pos 0) d (pos m) ≡ true → natAbs d ≤ m
 unfolding within
-distance-from-zero m (pos n) h = leb-true n m (both-right (leb 0 n) (leb n m) h)
-distance-from-zero m (negsuc n) h = let z : _≡_ {A = ℕ} 0 1 = cc in absurd (omega arith)
+within-zero m (pos n) h = leb-true n m (both-right (leb 0 n) (leb n m) h)
+within-zero m (negsuc n) h = let z : _≡_ {A = ℕ} 0 1 = cc in absurd (omega arith)
 
 -- below the width, and so below 64
-short : (w : ℕ) (xs : List ℤ) (n : ℕ) → isWidth w ≡ true → leb 2 n && leb n 2 ≡ true → natAbs (arg (counted xs n) 1) ≤ w - 1 → natAbs (arg xs 1) < 64
-short w xs n a h k =
-    let b = width-bounds w a in
-    let l : natAbs (arg xs 1) ≤ w - 1 = subst (λ (d : ℤ). natAbs d ≤ w - 1) (arg-exactly xs 2 n 1 h (lit< tt)) k in
-    omega arith
+module _ (w : ℕ) (xs : List ℤ) (n : ℕ) (width : isWidth w ≡ true) (arity : leb 2 n && leb n 2 ≡ true) where
+  short : natAbs (arg (counted xs n) 1) ≤ w - 1 → natAbs (arg xs 1) < 64
+  short h =
+      let b = width-bounds w width in
+      let l : natAbs (arg xs 1) ≤ w - 1 = subst (λ (d : ℤ). natAbs d ≤ w - 1) (arg-exactly xs 2 n 1 arity (lit< tt)) h in
+      omega arith
 
-pub either-short : (w : ℕ) (xs : List ℤ) (n : ℕ) → Accepted w 37 xs n → natAbs (arg xs 1) < 64
-unfolding isCount rowOf rows inDomains inDomainsFrom accepts
-either-short w xs n a = short w xs n (a .width) (a .arity) (signed-distance (w - 1) _ (both-left _ true (a .domains)))
+  pub signed-short : inDomains (fixnum ∷ signedDistance ∷ []) w (counted xs n) ≡ true → natAbs (arg xs 1) < 64
+  unfolding inDomains inDomainsFrom accepts
+  signed-short h = short (within-both (w - 1) _ (both-left _ true h))
 
-pub left-short : (w : ℕ) (xs : List ℤ) (n : ℕ) → Accepted w 38 xs n → natAbs (arg xs 1) < 64
-unfolding isCount rowOf rows inDomains inDomainsFrom accepts
-left-short w xs n a = short w xs n (a .width) (a .arity) (distance-from-zero (w - 1) _ (both-left _ true (a .domains)))
-
-pub right-short : (w : ℕ) (xs : List ℤ) (n : ℕ) → Accepted w 39 xs n → natAbs (arg xs 1) < 64
-unfolding isCount rowOf rows inDomains inDomainsFrom accepts
-right-short w xs n a = short w xs n (a .width) (a .arity) (distance-from-zero (w - 1) _ (both-left _ true (a .domains)))
+  pub distance-short : inDomains (fixnum ∷ distance ∷ []) w (counted xs n) ≡ true → natAbs (arg xs 1) < 64
+  unfolding inDomains inDomainsFrom accepts
+  distance-short h = short (within-zero (w - 1) _ (both-left _ true h))

@@ -4,12 +4,14 @@ use Prim.Native.Nat.{_+_, _<_, _^_}
 use lib.IntN.{ℤ, natAbs, _-ℤ_}
 use Rattle.words.specs.Wide.{wideValue}
 use Rattle.words.proofs.WordLaws.{back}
-use Rattle.words.proofs.WideLaws.{word-room, difference-room}
+use Rattle.words.proofs.SignedLaws.{natAbs-sub}
+use Rattle.words.proofs.WideLaws.{word-room, sum-room}
 use Rattle.fixnum.specs.Answers.{unless}
 use Rattle.fixnum.specs.Domains.{arg}
-use Rattle.fixnum.specs.Calls.{sized}
+use Rattle.fixnum.specs.Table.{rows, rowOf}
+use Rattle.fixnum.specs.Calls.{isCount, sized}
 use Rattle.fixnum.proofs.DispatchLaws.{place}
-use Rattle.fixnum.proofs.CarryLaws.{partsOf, minus-carry-outcome, minus-carry-size}
+use Rattle.fixnum.proofs.CarryLaws.{partsOf, minus-carry-outcome, difference-size}
 use borrow.Author.Needs.{needs}
 use Rattle.fixnum.proofs.carry.minus.Statement.{statement}
 use Rattle.fixnum.proofs.carry.minus.Tie as tie
@@ -51,12 +53,13 @@ subtract-word-requires-2 : tie.Need-subtract-word-requires-2
 unfolding arg
 subtract-word-requires-2 c κs =
     let a = c .before .before .before .before .before .args .t2 in
-    difference-room (c .subtract-word .result) _ _ (place a 0 (c .before .before .before .before .x .given)) (place a 1 (c .before .before .before .y .given)) (second c)
+    sum-room (c .subtract-word .result) _ _ _ (place a 0 (c .before .before .before .before .x .given)) (place a 1 (c .before .before .before .y .given)) (natAbs-sub (arg a 0) (arg a 1)) (second c)
 
 parts-requires : tie.Need-parts-requires
+unfolding isCount rowOf rows
 parts-requires c κs =
     let a = c .before .before .before .before .before .before in
-    (a .pre .width, subst (λ (s : ℤ). natAbs s < 2 ^ (62 + a .args .width)) (sym (third c)) (minus-carry-size _ _ _ (a .pre)))
+    (a .pre .width, subst (λ (s : ℤ). natAbs s < 2 ^ (62 + a .args .width)) (sym (third c)) (difference-size _ _ _ (a .pre .width) (a .pre .fixnums) (a .pre .arity)))
 
 returns : tie.Need-returns
 unfolding sized unless

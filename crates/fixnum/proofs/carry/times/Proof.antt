@@ -7,9 +7,10 @@ use Rattle.words.proofs.WordLaws.{back}
 use Rattle.words.proofs.WideLaws.{product-room}
 use Rattle.fixnum.specs.Answers.{unless}
 use Rattle.fixnum.specs.Domains.{arg}
-use Rattle.fixnum.specs.Calls.{sized}
+use Rattle.fixnum.specs.Table.{rows, rowOf}
+use Rattle.fixnum.specs.Calls.{isCount, sized}
 use Rattle.fixnum.proofs.DispatchLaws.{place}
-use Rattle.fixnum.proofs.CarryLaws.{partsOf, times-carry-outcome, times-carry-size}
+use Rattle.fixnum.proofs.CarryLaws.{partsOf, times-carry-outcome, product-size}
 use borrow.Author.Needs.{needs}
 use Rattle.fixnum.proofs.carry.times.Statement.{statement}
 use Rattle.fixnum.proofs.carry.times.Tie as tie
@@ -47,9 +48,10 @@ add-word-requires c κs =
     product-room (c .product .result) _ _ (place a 0 (c .before .before .before .x .given)) (place a 1 (c .before .before .y .given)) (second c)
 
 parts-requires : tie.Need-parts-requires
+unfolding isCount rowOf rows
 parts-requires c κs =
     let a = c .before .before .before .before .before in
-    (a .pre .width, subst (λ (s : ℤ). natAbs s < 2 ^ (62 + a .args .width)) (sym (third c)) (times-carry-size _ _ _ (a .pre)))
+    (a .pre .width, subst (λ (s : ℤ). natAbs s < 2 ^ (62 + a .args .width)) (sym (third c)) (product-size _ _ _ (a .pre .width) (a .pre .fixnums) (a .pre .arity)))
 
 returns : tie.Need-returns
 unfolding sized unless

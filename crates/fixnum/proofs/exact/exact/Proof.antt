@@ -2,7 +2,7 @@
 use mathlib.Core.Path.{sym, ap, _∙_}
 use native.Mathlib.Omega.{arith}
 use lib.IntN.{ℤ, pos}
-use Rattle.words.proofs.WideLaws.{one-word-value, two-words-large}
+use Rattle.words.proofs.WideLaws.{one-word, two-words-large}
 use Rattle.fixnum.specs.Calls.{sized}
 use Rattle.fixnum.proofs.CallLaws.{width-bounds, sized-large}
 use borrow.Author.Needs.{needs}
@@ -18,7 +18,7 @@ refuse-requires c κs = search needs
 returns : tie.Need-returns
 returns c =
     let a = c .before .before .before .args in
-    c .sized .ensures ∙ ap (λ (x : ℤ). sized (a .size) (a .width) (x, pos 0)) (one-word-value (a .s) (c .before .if1 .taken))
+    c .sized .ensures ∙ ap (λ (x : ℤ). sized (a .size) (a .width) (x, pos 0)) (one-word (a .s) (c .before .if1 .taken))
 
 returns-2 : tie.Need-returns-2
 returns-2 c =

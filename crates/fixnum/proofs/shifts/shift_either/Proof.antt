@@ -7,10 +7,11 @@ use Rattle.bits.specs.Shift.{shiftLeft, shiftRight}
 use Rattle.words.proofs.WordLaws.{back}
 use Rattle.fixnum.specs.Answers.{done}
 use Rattle.fixnum.specs.Domains.{arg}
-use Rattle.fixnum.specs.Calls.{sized}
+use Rattle.fixnum.specs.Table.{rows, rowOf}
+use Rattle.fixnum.specs.Calls.{isCount, sized}
 use Rattle.fixnum.proofs.DispatchLaws.{place}
 use Rattle.fixnum.proofs.CallLaws.{sized-fits}
-use Rattle.fixnum.proofs.ShiftLaws.{either-outcome, either-short, either-fixnum, right-fits, shift-left, shift-right}
+use Rattle.fixnum.proofs.ShiftLaws.{either-outcome, signed-short, either-fixnum, right-fits, shift-left, shift-right}
 use borrow.Author.Needs.{needs}
 use Rattle.fixnum.proofs.shifts.shift_either.Statement.{statement}
 use Rattle.fixnum.proofs.shifts.shift_either.Tie as tie
@@ -40,7 +41,8 @@ absolute-requires : tie.Need-absolute-requires
 absolute-requires c κs = search needs
 
 right-requires : tie.Need-right-requires
-right-requires c κs = subst (λ (k : ℕ). k < 64) (sym (distance-right c)) (either-short _ _ _ (c .before .before .before .before .before .pre))
+unfolding isCount rowOf rows
+right-requires c κs = subst (λ (k : ℕ). k < 64) (sym (distance-right c)) (signed-short _ _ _ (c .before .before .before .before .before .pre .width) (c .before .before .before .before .before .pre .arity) (c .before .before .before .before .before .pre .domains))
 
 done-requires : tie.Need-done-requires
 done-requires c κs = search needs
@@ -49,9 +51,10 @@ absolute-requires-2 : tie.Need-absolute-requires-2
 absolute-requires-2 c κs = search needs
 
 left-requires : tie.Need-left-requires
+unfolding isCount rowOf rows
 left-requires c κs =
     let a = c .before .before .before .before .before in
-    (a .pre .width, subst (λ (k : ℕ). k < 64) (sym (distance-left c)) (either-short _ _ _ (a .pre)))
+    (a .pre .width, subst (λ (k : ℕ). k < 64) (sym (distance-left c)) (signed-short _ _ _ (a .pre .width) (a .pre .arity) (a .pre .domains)))
 
 returns : tie.Need-returns
 unfolding arg

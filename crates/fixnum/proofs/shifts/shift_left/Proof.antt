@@ -5,9 +5,10 @@ use lib.IntN.{pos, natAbs}
 use Rattle.bits.specs.Shift.{shiftLeft}
 use Rattle.words.proofs.WordLaws.{back}
 use Rattle.fixnum.specs.Domains.{arg}
-use Rattle.fixnum.specs.Calls.{sized}
+use Rattle.fixnum.specs.Table.{rows, rowOf}
+use Rattle.fixnum.specs.Calls.{isCount, sized}
 use Rattle.fixnum.proofs.DispatchLaws.{place}
-use Rattle.fixnum.proofs.ShiftLaws.{left-outcome, left-short}
+use Rattle.fixnum.proofs.ShiftLaws.{left-outcome, distance-short}
 use borrow.Author.Needs.{needs}
 use Rattle.fixnum.proofs.shifts.shift_left.Statement.{statement}
 use Rattle.fixnum.proofs.shifts.shift_left.Tie as tie
@@ -26,9 +27,10 @@ absolute-requires : tie.Need-absolute-requires
 absolute-requires c κs = search needs
 
 left-requires : tie.Need-left-requires
+unfolding isCount rowOf rows
 left-requires c κs =
     let a = c .before .before .before in
-    (a .pre .width, subst (λ (k : ℕ). k < 64) (sym (distance c)) (left-short _ _ _ (a .pre)))
+    (a .pre .width, subst (λ (k : ℕ). k < 64) (sym (distance c)) (distance-short _ _ _ (a .pre .width) (a .pre .arity) (a .pre .domains)))
 
 returns : tie.Need-returns
 unfolding arg

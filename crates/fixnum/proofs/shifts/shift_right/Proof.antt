@@ -6,8 +6,10 @@ use Rattle.bits.specs.Shift.{shiftRight}
 use Rattle.words.proofs.WordLaws.{back}
 use Rattle.fixnum.specs.Answers.{done}
 use Rattle.fixnum.specs.Domains.{arg}
+use Rattle.fixnum.specs.Table.{rows, rowOf}
+use Rattle.fixnum.specs.Calls.{isCount}
 use Rattle.fixnum.proofs.DispatchLaws.{place}
-use Rattle.fixnum.proofs.ShiftLaws.{right-outcome, right-short}
+use Rattle.fixnum.proofs.ShiftLaws.{right-outcome, distance-short}
 use borrow.Author.Needs.{needs}
 use Rattle.fixnum.proofs.shifts.shift_right.Statement.{statement}
 use Rattle.fixnum.proofs.shifts.shift_right.Tie as tie
@@ -26,7 +28,8 @@ absolute-requires : tie.Need-absolute-requires
 absolute-requires c κs = search needs
 
 right-requires : tie.Need-right-requires
-right-requires c κs = subst (λ (k : ℕ). k < 64) (sym (distance c)) (right-short _ _ _ (c .before .before .before .pre))
+unfolding isCount rowOf rows
+right-requires c κs = subst (λ (k : ℕ). k < 64) (sym (distance c)) (distance-short _ _ _ (c .before .before .before .pre .width) (c .before .before .before .pre .arity) (c .before .before .before .pre .domains))
 
 done-requires : tie.Need-done-requires
 done-requires c κs = search needs

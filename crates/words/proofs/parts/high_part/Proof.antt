@@ -1,5 +1,5 @@
 -- `words::parts::high_part` meets its contract. Assumes nothing.
-use mathlib.Core.Path.{_≡_, sym, ap, _∙_}
+use mathlib.Core.Path.{sym, _∙_}
 use native.Mathlib.Omega.{arith}
 use Rattle.words.proofs.WordLaws.{back}
 use Rattle.words.proofs.PartLaws.{high-near, high-far, quotient-lt, small-fits}

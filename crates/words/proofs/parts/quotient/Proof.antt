@@ -1,5 +1,4 @@
 -- `words::parts::quotient` meets its contract. Assumes nothing.
-use mathlib.Core.Path.{_∙_}
 use native.Mathlib.Omega.{arith}
 use Rattle.words.proofs.PartLaws.{quotient-word, quotient-lt}
 use borrow.Author.Needs.{needs}

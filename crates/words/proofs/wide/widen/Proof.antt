@@ -1,5 +1,5 @@
 -- `words::wide::widen` meets its contract. Assumes nothing.
-use mathlib.Core.Path.{_∙_}
+use mathlib.Core.Path.{refl, sym, _∙_}
 use borrow.Author.Needs.{needs}
 use Rattle.words.proofs.SignedLaws.{rejoin}
 use Rattle.words.proofs.WideLaws.{one-word}
@@ -14,7 +14,7 @@ absolute-requires c κs = search needs
 
 returns : tie.Need-returns
 returns c =
-    one-word _ _ ∙ rejoin (c .before .before .fits .x) (c .before .is-negative .ensures) (c .absolute .ensures)
+    sym (one-word _ refl) ∙ rejoin (c .before .before .fits .x) (c .before .is-negative .ensures) (c .absolute .ensures)
 
 pub widen-spec : {M : Type 1} → statement M
 widen-spec = tie.close (tie.spec is-negative-requires absolute-requires returns)
