@@ -10,3 +10,7 @@ pub mod Influence
 pub mod Demand3
 pub mod Cases
 pub mod FieldCalls
+pub mod DispatchLaws
+pub mod ArithmeticLaws
+pub mod CarryLaws
+pub mod ShiftLaws

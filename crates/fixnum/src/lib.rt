@@ -17,6 +17,10 @@ mod logical;
 mod loops;
 mod fields;
 mod rotation;
+mod arithmetic;
+mod carry;
+mod exact;
+mod shifts;
 
 use words::sign::absolute_fits;
 use words::sign::from_absolute;

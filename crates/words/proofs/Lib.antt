@@ -3,3 +3,7 @@ pub mod LogicalWords
 pub mod CountWords
 pub mod DivisionWords
 pub mod FieldLaws
+pub mod SignedLaws
+pub mod Columns
+pub mod WideLaws
+pub mod PartLaws

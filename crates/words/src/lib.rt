@@ -4,4 +4,6 @@ pub mod count;
 pub mod division;
 pub mod logical;
 pub mod field;
+pub mod parts;
 pub mod sign;
+pub mod wide;

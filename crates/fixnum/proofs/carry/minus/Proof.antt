@@ -1,0 +1,81 @@
+-- `fixnum::carry::minus` meets its contract. Assumes nothing.
+use mathlib.Core.Path.{_≡_, sym, ap, ap₂, _∙_, subst}
+use Prim.Native.Nat.{_+_, _<_, _^_}
+use lib.IntN.{ℤ, natAbs, _-ℤ_}
+use Rattle.words.specs.Wide.{wideValue}
+use Rattle.words.proofs.WordLaws.{back}
+use Rattle.words.proofs.SignedLaws.{natAbs-sub}
+use Rattle.words.proofs.WideLaws.{word-room, sum-room}
+use Rattle.fixnum.specs.Answers.{unless}
+use Rattle.fixnum.specs.Domains.{arg}
+use Rattle.fixnum.specs.Table.{rows, rowOf}
+use Rattle.fixnum.specs.Calls.{isCount, sized}
+use Rattle.fixnum.proofs.DispatchLaws.{place}
+use Rattle.fixnum.proofs.CarryLaws.{partsOf, minus-carry-outcome, difference-size}
+use borrow.Author.Needs.{needs}
+use Rattle.fixnum.proofs.carry.minus.Statement.{statement}
+use Rattle.fixnum.proofs.carry.minus.Tie as tie
+
+-- the exact result, argument by argument
+first : (c : tie.After-widen) → wideValue (c .widen .result) ≡ arg (c .before .before .before .before .args .t2) 0
+unfolding arg
+first c = c .widen .ensures ∙ back (place (c .before .before .before .before .args .t2) 0 (c .before .before .before .x .given))
+
+second : (c : tie.After-subtract-word) → wideValue (c .subtract-word .result) ≡ arg (c .before .before .before .before .before .args .t2) 0 -ℤ arg (c .before .before .before .before .before .args .t2) 1
+unfolding arg
+second c =
+    c .subtract-word .ensures ∙ ap₂ _-ℤ_ (first (c .before)) (back (place (c .before .before .before .before .before .args .t2) 1 (c .before .before .before .y .given)))
+
+third : (c : tie.After-subtract-word2)
+    → wideValue (c .subtract-word2 .result)
+    ≡ (arg (c .before .before .before .before .before .before .args .t2) 0 -ℤ arg (c .before .before .before .before .before .before .args .t2) 1) -ℤ arg (c .before .before .before .before .before .before .args .t2) 2
+unfolding arg
+third c =
+    c .subtract-word2 .ensures ∙ ap₂ _-ℤ_ (second (c .before)) (back (place (c .before .before .before .before .before .before .args .t2) 2 (c .before .before .before .z .given)))
+
+array-copy-out-x : tie.Need-array-copy-out-x
+array-copy-out-x c = search needs
+
+array-copy-out-y : tie.Need-array-copy-out-y
+array-copy-out-y c = search needs
+
+array-copy-out-z : tie.Need-array-copy-out-z
+array-copy-out-z c = search needs
+
+widen-requires : tie.Need-widen-requires
+widen-requires c κs = search needs
+
+subtract-word-requires : tie.Need-subtract-word-requires
+unfolding arg
+subtract-word-requires c κs = word-room (c .widen .result) _ (place (c .before .before .before .before .args .t2) 0 (c .before .before .before .x .given)) (first c)
+
+subtract-word-requires-2 : tie.Need-subtract-word-requires-2
+unfolding arg
+subtract-word-requires-2 c κs =
+    let a = c .before .before .before .before .before .args .t2 in
+    sum-room (c .subtract-word .result) _ _ _ (place a 0 (c .before .before .before .before .x .given)) (place a 1 (c .before .before .before .y .given)) (natAbs-sub (arg a 0) (arg a 1)) (second c)
+
+parts-requires : tie.Need-parts-requires
+unfolding isCount rowOf rows
+parts-requires c κs =
+    let a = c .before .before .before .before .before .before in
+    (a .pre .width, subst (λ (s : ℤ). natAbs s < 2 ^ (62 + a .args .width)) (sym (third c)) (difference-size _ _ _ (a .pre .width) (a .pre .fixnums) (a .pre .arity)))
+
+returns : tie.Need-returns
+unfolding sized unless
+returns c =
+    let a = c .before .before .before .before .before .before .before in
+    c .parts .ensures ∙ ap (λ (s : ℤ). sized 0 (a .args .width) (partsOf (a .args .width) s)) (third (c .before)) ∙ sym (minus-carry-outcome _ _ _ (a .pre))
+
+pub minus-spec : {M : Type 1} → statement M
+minus-spec =
+    tie.close
+    (tie.spec
+    array-copy-out-x
+    array-copy-out-y
+    array-copy-out-z
+    widen-requires
+    subtract-word-requires
+    subtract-word-requires-2
+    parts-requires
+    returns)

@@ -1,0 +1,28 @@
+-- `words::parts::quotient` meets its contract. Assumes nothing.
+use native.Mathlib.Omega.{arith}
+use Rattle.words.proofs.PartLaws.{quotient-word, quotient-lt}
+use borrow.Author.Needs.{needs}
+use Rattle.words.proofs.parts.quotient.Statement.{statement}
+use Rattle.words.proofs.parts.quotient.Tie as tie
+
+sub-result : tie.Need-sub-result
+sub-result c = search needs
+
+shl-result : tie.Need-shl-result
+shl-result c = search needs
+
+shr-result : tie.Need-shr-result
+shr-result c = search needs
+
+add-result : tie.Need-add-result
+add-result c =
+    let a = c .before .before in
+    let e = quotient-word (a .args .width) (a .args .s) (omega arith) (a .pre .1) in
+    let l = quotient-lt (a .args .width) (a .args .s) (a .pre .1) in
+    record { fits = omega arith }
+
+returns : tie.Need-returns
+returns c = let a = c .before .before in quotient-word (a .args .width) (a .args .s) (omega arith) (a .pre .1)
+
+pub quotient-spec : {M : Type 1} → statement M
+quotient-spec = tie.close (tie.spec sub-result shl-result shr-result add-result returns)

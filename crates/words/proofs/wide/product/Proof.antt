@@ -1,0 +1,44 @@
+-- `words::wide::product` meets its contract. Assumes nothing.
+use mathlib.Core.Path.{ap₂, _∙_}
+use mathlib.Core.Bool.{xor}
+use borrow.Author.Needs.{needs}
+use lib.IntN.{_*ℤ_}
+use Rattle.words.proofs.SignedLaws.{withSign-mul, rejoin}
+use Rattle.words.proofs.wide.product.Statement.{statement}
+use Rattle.words.proofs.wide.product.Tie as tie
+
+is-negative-requires : tie.Need-is-negative-requires
+is-negative-requires c κs = search needs
+
+is-negative-requires-2 : tie.Need-is-negative-requires-2
+is-negative-requires-2 c κs = search needs
+
+absolute-requires : tie.Need-absolute-requires
+absolute-requires c κs = search needs
+
+absolute-requires-2 : tie.Need-absolute-requires-2
+absolute-requires-2 c κs = search needs
+
+multiply-requires : tie.Need-multiply-requires
+multiply-requires c κs = search needs
+
+returns : tie.Need-returns
+unfolding xor
+returns c =
+    let a = c .before .before .before .before .before in
+    c .multiply .ensures
+    ∙ withSign-mul _ _ _ _
+    ∙ ap₂ _*ℤ_
+    (rejoin (a .fits .x) (c .before .before .before .before .is-negative .ensures) (c .before .before .absolute .ensures))
+    (rejoin (a .fits .y) (c .before .before .before .is-negative2 .ensures) (c .before .absolute2 .ensures))
+
+pub product-spec : {M : Type 1} → statement M
+product-spec =
+    tie.close
+    (tie.spec
+    is-negative-requires
+    is-negative-requires-2
+    absolute-requires
+    absolute-requires-2
+    multiply-requires
+    returns)

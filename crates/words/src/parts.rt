@@ -1,0 +1,52 @@
+// The two parts of an integer s of two words at a width: s mod0 2^width and s div0 2^width.
+ghost use mathlib.Core.Path.{_≡_};
+ghost use Prim.Native.Nat.{_+_, _≤_, _<_, _/_, _%_, _^_};
+ghost use lib.IntN.{pos, natAbs};
+ghost use Rattle.bits.specs.Division.{div0, mod0};
+ghost use Rattle.words.specs.Wide.{wideValue};
+use crate::sign::absolute_fits;
+use crate::sign::from_absolute;
+use crate::sign::power;
+use crate::wide::Wide;
+
+fn remainder(width: u64, s: Wide) -> u64
+    requires { ⌜ (1 ≤ width) × (width < 64) ⌝ }
+    ensures { λ r. ⌜ r ≡ natAbs (wideValue s) % 2 ^ width ⌝ }
+{
+    s.low % power(width)
+}
+
+fn quotient(width: u64, s: Wide) -> u64
+    requires { ⌜ (1 ≤ width) × (width < 64) ⌝ }
+    requires { ⌜ natAbs (wideValue s) < 2 ^ (62 + width) ⌝ }
+    ensures { λ r. ⌜ r ≡ natAbs (wideValue s) / 2 ^ width ⌝ }
+{
+    (s.high << (64 - width)) + (s.low >> width)
+}
+
+// The remainder r of |s| with the sign of s, if that is a fixnum at the width, else 2^width - r with the other sign.
+pub fn low_part(width: u64, s: Wide) -> i64
+    requires { ⌜ (1 ≤ width) × (width < 64) ⌝ }
+    ensures { λ r. ⌜ r ≡ mod0 (wideValue s) (pos (2 ^ width)) ⌝ }
+{
+    let r = remainder(width, s);
+    if absolute_fits(width, s.negative, r) {
+        from_absolute(s.negative, r)
+    } else {
+        from_absolute(!s.negative, power(width) - r)
+    }
+}
+
+// The quotient of |s| with the sign of s, and one more where the low part has the other sign.
+pub fn high_part(width: u64, s: Wide) -> i64
+    requires { ⌜ (1 ≤ width) × (width < 64) ⌝ }
+    requires { ⌜ natAbs (wideValue s) < 2 ^ (62 + width) ⌝ }
+    ensures { λ r. ⌜ r ≡ div0 (wideValue s) (pos (2 ^ width)) ⌝ }
+{
+    let q = quotient(width, s);
+    if absolute_fits(width, s.negative, remainder(width, s)) {
+        from_absolute(s.negative, q)
+    } else {
+        from_absolute(s.negative, q + 1)
+    }
+}
