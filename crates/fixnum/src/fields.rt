@@ -1,4 +1,5 @@
 // Codes 33 to 36: fxbit-set?, fxcopy-bit, fxbit-field, fxcopy-bit-field. A field's start is argument 1 and its end argument 2.
+ghost use Prim.Native.Nat.{_≤_};
 ghost use mathlib.Core.Path.{_≡_};
 ghost use mathlib.Core.Bool.{false};
 ghost use lib.IntN.{natAbs};
@@ -66,4 +67,17 @@ pub fn copy_bit_field(width: u64, args: [i64; 4], count: u64) -> Answer
     let end = natural(args[2]);
     let source = field::low_bits(args[3], end - start);
     done(field::copy_bit_field(x, start, end, source), 0)
+}
+
+pub fn field_of(width: u64, code: u64, args: [i64; 4], count: u64) -> Answer
+    requires { ⌜ Accepted width code args count ⌝ }
+    requires { ⌜ (33 ≤ code) × (code ≤ 36) ⌝ }
+    ensures { λ r. ⌜ r ≡ outcome width code (counted args count) ⌝ }
+{
+    match code {
+        33 => bit_set(width, args, count),
+        34 => copy_bit(width, args, count),
+        35 => bit_field(width, args, count),
+        _ => copy_bit_field(width, args, count),
+    }
 }

@@ -9,19 +9,26 @@ ghost use Rattle.fixnum.specs.Domains.{isWidth};
 ghost use Rattle.fixnum.specs.Operations.{truth};
 ghost use Rattle.fixnum.specs.Calls as calls;
 
+mod arithmetic;
+mod carry;
 mod checks;
 mod compare;
 mod counts;
+mod dispatch;
 mod division;
+mod exact;
+mod fields;
 mod logical;
 mod loops;
-mod fields;
 mod rotation;
-mod arithmetic;
-mod carry;
-mod exact;
 mod shifts;
 
+use checks::in_domains;
+use checks::is_code;
+use checks::is_count;
+use checks::is_width;
+use dispatch::operate;
+use loops::all_fixnums;
 use words::sign::absolute_fits;
 use words::sign::from_absolute;
 
@@ -69,4 +76,28 @@ fn sized(size: u64, width: u64, negative: bool, n: u64, second: i64) -> Answer
     } else {
         refuse(size)
     }
+}
+
+// The answer of the operation with a code, at a width, to the first `count` places of `args`. Refusals in this order: 1 for the
+// width, 2 for the code, 3 for the count, 4 for an argument that is no fixnum, 5 for one outside its domain, 6 for a result
+// that is no fixnum (5 for fx-).
+pub fn call(width: u64, code: u64, args: [i64; 4], count: u64) -> Answer
+    ensures { λ r. ⌜ r ≡ calls.fixnumAnswer width code args count ⌝ }
+{
+    if !is_width(width) {
+        return refuse(1);
+    }
+    if !is_code(code) {
+        return refuse(2);
+    }
+    if !is_count(code, count) {
+        return refuse(3);
+    }
+    if !all_fixnums(width, args, count) {
+        return refuse(4);
+    }
+    if !in_domains(width, code, args, count) {
+        return refuse(5);
+    }
+    operate(width, code, args, count)
 }

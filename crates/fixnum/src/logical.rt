@@ -41,3 +41,15 @@ pub fn combined(width: u64, code: u64, args: [i64; 4], count: u64) -> Answer
         _ => done(fold_all(Fold::Xor, 0, args, count), 0),
     }
 }
+
+pub fn logical(width: u64, code: u64, args: [i64; 4], count: u64) -> Answer
+    requires { ⌜ Accepted width code args count ⌝ }
+    requires { ⌜ (25 ≤ code) × (code ≤ 29) ⌝ }
+    ensures { λ r. ⌜ r ≡ outcome width code (counted args count) ⌝ }
+{
+    match code {
+        25 => not(width, args, count),
+        29 => choose(width, args, count),
+        _ => combined(width, code, args, count),
+    }
+}

@@ -2,8 +2,8 @@
 // `requires`: these functions are for the crates above, which check arguments.
 pub mod count;
 pub mod division;
-pub mod logical;
 pub mod field;
+pub mod logical;
 pub mod parts;
 pub mod sign;
 pub mod wide;

@@ -1,0 +1,128 @@
+-- `fixnum::call` meets its contract: the stages of the code are those of the answer. Assumes nothing.
+use mathlib.Core.Path.{_≡_, sym, _∙_}
+use mathlib.Core.Bool.{true, false}
+use borrow.Author.Tests.{not-true, not-false}
+use Rattle.fixnum.specs.Domains.{isWidth, inDomains}
+use Rattle.fixnum.specs.Table.{isCode, rowOf}
+use Rattle.fixnum.specs.Calls.{counted, isCount, allFixnums, fixnumAnswer, Accepted}
+use Rattle.fixnum.proofs.TableLaws.{at-most-four, code-bounds}
+use Rattle.fixnum.proofs.AnswerLaws.{passed, failed, accepted}
+use borrow.Author.Needs.{needs}
+use Rattle.fixnum.proofs.call.Statement.{statement}
+use Rattle.fixnum.proofs.call.Tie as tie
+
+-- what each stage has shown, once it is passed
+width-ok : (c : tie.Else1) → isWidth (c .before .before .args .width) ≡ true
+width-ok c = sym (c .before .is-width .ensures) ∙ not-false _ (c .if1 .left)
+
+code-ok : (c : tie.Else2) → isCode (c .before .before .before .before .args .code) ≡ true
+code-ok c = sym (c .before .is-code .ensures) ∙ not-false _ (c .if2 .left)
+
+count-ok : (c : tie.Else3) → isCount (c .before .before .before .before .before .before .args .code) (c .before .before .before .before .before .before .args .count) ≡ true
+count-ok c = sym (c .before .is-count .ensures) ∙ not-false _ (c .if3 .left)
+
+accepts : (c : tie.Else5) → let a = c .before .before .before .before .before .before .before .before .before .before in Accepted (a .args .width) (a .args .code) (a .args .args) (a .args .count)
+accepts c = record {
+  width = width-ok (c .before .before .before .before .before .before .before .before);
+  arity = count-ok (c .before .before .before .before);
+  fixnums = sym (c .before .before .before .all-fixnums .ensures) ∙ not-false _ (c .before .before .if4 .left);
+  domains = sym (c .before .in-domains .ensures) ∙ not-false _ (c .if5 .left);
+}
+
+is-width-requires : tie.Need-is-width-requires
+is-width-requires c κs = search needs
+
+refuse-requires : tie.Need-refuse-requires
+refuse-requires c κs = search needs
+
+returns : tie.Need-returns
+unfolding fixnumAnswer
+returns c =
+    c .refuse .ensures ∙ sym (failed 1 _ (sym (c .before .before .is-width .ensures) ∙ not-true _ (c .before .if1 .taken)))
+
+is-code-requires : tie.Need-is-code-requires
+is-code-requires c κs = search needs
+
+refuse-requires-2 : tie.Need-refuse-requires-2
+refuse-requires-2 c κs = search needs
+
+returns-2 : tie.Need-returns-2
+unfolding fixnumAnswer
+returns-2 c =
+    c .refuse2 .ensures
+    ∙ sym (passed 1 _ (width-ok (c .before .before .before)) ∙ failed 2 _ (sym (c .before .before .is-code .ensures) ∙ not-true _ (c .before .if2 .taken)))
+
+is-count-requires : tie.Need-is-count-requires
+is-count-requires c κs = code-ok c
+
+refuse-requires-3 : tie.Need-refuse-requires-3
+refuse-requires-3 c κs = search needs
+
+returns-3 : tie.Need-returns-3
+unfolding fixnumAnswer
+returns-3 c =
+    c .refuse3 .ensures
+    ∙ sym (passed 1 _ (width-ok (c .before .before .before .before .before))
+    ∙ passed 2 _ (code-ok (c .before .before .before))
+    ∙ failed 3 _ (sym (c .before .before .is-count .ensures) ∙ not-true _ (c .before .if3 .taken)))
+
+all-fixnums-requires : tie.Need-all-fixnums-requires
+all-fixnums-requires c κs = (width-ok (c .before .before .before .before), at-most-four _ _ (count-ok c))
+
+refuse-requires-4 : tie.Need-refuse-requires-4
+refuse-requires-4 c κs = search needs
+
+returns-4 : tie.Need-returns-4
+unfolding fixnumAnswer
+returns-4 c =
+    c .refuse4 .ensures
+    ∙ sym (passed 1 _ (width-ok (c .before .before .before .before .before .before .before))
+    ∙ passed 2 _ (code-ok (c .before .before .before .before .before))
+    ∙ passed 3 _ (count-ok (c .before .before .before))
+    ∙ failed 4 _ (sym (c .before .before .all-fixnums .ensures) ∙ not-true _ (c .before .if4 .taken)))
+
+in-domains-requires : tie.Need-in-domains-requires
+in-domains-requires c κs = (width-ok (c .before .before .before .before .before .before), (code-ok (c .before .before .before .before), count-ok (c .before .before)))
+
+refuse-requires-5 : tie.Need-refuse-requires-5
+refuse-requires-5 c κs = search needs
+
+returns-5 : tie.Need-returns-5
+unfolding fixnumAnswer
+returns-5 c =
+    c .refuse5 .ensures
+    ∙ sym (passed 1 _ (width-ok (c .before .before .before .before .before .before .before .before .before))
+    ∙ passed 2 _ (code-ok (c .before .before .before .before .before .before .before))
+    ∙ passed 3 _ (count-ok (c .before .before .before .before .before))
+    ∙ passed 4 _ (sym (c .before .before .before .before .all-fixnums .ensures) ∙ not-false _ (c .before .before .before .if4 .left))
+    ∙ failed 5 _ (sym (c .before .before .in-domains .ensures) ∙ not-true _ (c .before .if5 .taken)))
+
+operate-requires : tie.Need-operate-requires
+operate-requires c κs = (accepts c, code-bounds _ (code-ok (c .before .before .before .before .before .before)))
+
+returns-6 : tie.Need-returns-6
+returns-6 c =
+    let a = c .before .before .before .before .before .before .before .before .before .before .before in
+    c .operate .ensures ∙ sym (accepted (a .args .width) (a .args .code) (a .args .args) (a .args .count) (code-ok (c .before .before .before .before .before .before .before)) (accepts (c .before)))
+
+pub call-spec : {M : Type 1} → statement M
+call-spec =
+    tie.close
+    (tie.spec
+    is-width-requires
+    refuse-requires
+    returns
+    is-code-requires
+    refuse-requires-2
+    returns-2
+    is-count-requires
+    refuse-requires-3
+    returns-3
+    all-fixnums-requires
+    refuse-requires-4
+    returns-4
+    in-domains-requires
+    refuse-requires-5
+    returns-5
+    operate-requires
+    returns-6)

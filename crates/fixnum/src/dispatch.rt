@@ -1,0 +1,46 @@
+// The operation of a code, on the arguments of a call that no stage before the size has refused.
+ghost use mathlib.Core.Path.{_≡_};
+ghost use Prim.Native.Nat.{_≤_};
+ghost use Rattle.fixnum.specs.Calls.{Accepted, counted, outcome};
+use super::Answer;
+use super::arithmetic::arithmetic;
+use super::carry::carry;
+use super::compare::ask;
+use super::compare::compare;
+use super::compare::extreme;
+use super::counts::counts;
+use super::division::divide;
+use super::fields::field_of;
+use super::logical::logical;
+use super::rotation::move_bits;
+use super::shifts::shift;
+
+pub fn operate(width: u64, code: u64, args: [i64; 4], count: u64) -> Answer
+    requires { ⌜ Accepted width code args count ⌝ }
+    requires { ⌜ (1 ≤ code) × (code ≤ 41) ⌝ }
+    ensures { λ r. ⌜ r ≡ outcome width code (counted args count) ⌝ }
+{
+    if code <= 5 {
+        compare(width, code, args, count)
+    } else if code <= 10 {
+        ask(width, code, args, count)
+    } else if code <= 12 {
+        extreme(width, code, args, count)
+    } else if code <= 15 {
+        arithmetic(width, code, args, count)
+    } else if code <= 21 {
+        divide(width, code, args, count)
+    } else if code <= 24 {
+        carry(width, code, args, count)
+    } else if code <= 29 {
+        logical(width, code, args, count)
+    } else if code <= 32 {
+        counts(width, code, args, count)
+    } else if code <= 36 {
+        field_of(width, code, args, count)
+    } else if code <= 39 {
+        shift(width, code, args, count)
+    } else {
+        move_bits(width, code, args, count)
+    }
+}
