@@ -10,9 +10,9 @@ use super::compare::compare;
 use super::compare::extreme;
 use super::counts::counts;
 use super::division::divide;
-use super::fields::field_of;
+use super::fields::fields;
 use super::logical::logical;
-use super::rotation::move_bits;
+use super::rotation::rotation;
 use super::shifts::shift;
 
 pub fn operate(width: u64, code: u64, args: [i64; 4], count: u64) -> Answer
@@ -37,10 +37,10 @@ pub fn operate(width: u64, code: u64, args: [i64; 4], count: u64) -> Answer
     } else if code <= 32 {
         counts(width, code, args, count)
     } else if code <= 36 {
-        field_of(width, code, args, count)
+        fields(width, code, args, count)
     } else if code <= 39 {
         shift(width, code, args, count)
     } else {
-        move_bits(width, code, args, count)
+        rotation(width, code, args, count)
     }
 }

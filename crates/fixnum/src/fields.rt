@@ -7,6 +7,7 @@ ghost use Rattle.bits.specs.Testbit.{isNegative};
 ghost use Rattle.fixnum.specs.Calls.{Accepted, counted, outcome};
 use super::Answer;
 use super::done;
+use super::question;
 use words::field;
 
 // A position, a bit or a count, which is not negative.
@@ -24,11 +25,7 @@ pub fn bit_set(width: u64, args: [i64; 4], count: u64) -> Answer
 {
     let x = args[0];
     let k = natural(args[1]);
-    if field::bit_set(x, k) {
-        done(1, 0)
-    } else {
-        done(0, 0)
-    }
+    question(field::bit_set(x, k))
 }
 
 // fxcopy-bit: at position width - 1 the new bit is the sign.
@@ -69,7 +66,7 @@ pub fn copy_bit_field(width: u64, args: [i64; 4], count: u64) -> Answer
     done(field::copy_bit_field(x, start, end, source), 0)
 }
 
-pub fn field_of(width: u64, code: u64, args: [i64; 4], count: u64) -> Answer
+pub fn fields(width: u64, code: u64, args: [i64; 4], count: u64) -> Answer
     requires { ⌜ Accepted width code args count ⌝ }
     requires { ⌜ (33 ≤ code) × (code ≤ 36) ⌝ }
     ensures { λ r. ⌜ r ≡ outcome width code (counted args count) ⌝ }

@@ -32,7 +32,7 @@ pub fn reverse(width: u64, args: [i64; 4], count: u64) -> Answer
     done(field::copy_bit_field(x, start, end, reversed), 0)
 }
 
-pub fn move_bits(width: u64, code: u64, args: [i64; 4], count: u64) -> Answer
+pub fn rotation(width: u64, code: u64, args: [i64; 4], count: u64) -> Answer
     requires { ⌜ Accepted width code args count ⌝ }
     requires { ⌜ (40 ≤ code) × (code ≤ 41) ⌝ }
     ensures { λ r. ⌜ r ≡ outcome width code (counted args count) ⌝ }

@@ -8,7 +8,7 @@ use Prim.Native.Nat.{ℕ}
 use lib.Dec.{lit<}
 use lib.IntN.{ℤ, pos, natAbs}
 use Rattle.bits.specs.Testbit.{testbit}
-use Rattle.words.proofs.WordLaws.{back}
+use Rattle.words.proofs.WordLaws.{back-word}
 use Rattle.fixnum.specs.Answers.{done, unless}
 use Rattle.fixnum.specs.Domains.{arg}
 use Rattle.fixnum.specs.Operations.{truth, question}
@@ -49,33 +49,17 @@ bit-set-requires c κs =
       width-bounds (b .args .width) (b .pre .width),
     )
 
--- the bit that was read
-bit : (c : tie.After-bit-set) → c .bit-set .result ≡ testbit (arg (c .before .before .before .before .args .t2) 0) (natAbs (arg (c .before .before .before .before .args .t2) 1))
-unfolding arg
-bit c =
-    cc (c .bit-set .ensures, back (record { sfits = c .before .before .before .x .given }), natural-answer (position (c .before .before .before .before)) (c .before .natural .ensures))
-
-done-requires : tie.Need-done-requires
-done-requires c κs = search needs
-
-done-requires-2 : tie.Need-done-requires-2
-done-requires-2 c κs = search needs
+question-requires : tie.Need-question-requires
+question-requires c κs = search needs
 
 returns : tie.Need-returns
-unfolding truth
+unfolding arg
 returns c =
-    let b = c .before .before in
-    c .done .ensures
-    ∙ ap (λ (t : Bool). done (truth t) (pos 0)) (sym (c .before .if1 .taken) ∙ bit b)
-    ∙ sym (meaning _ _ _ (b .before .before .before .before .pre))
-
-returns-2 : tie.Need-returns-2
-unfolding truth
-returns-2 c =
-    let b = c .before .before in
-    c .done2 .ensures
-    ∙ ap (λ (t : Bool). done (truth t) (pos 0)) (sym (c .before .if1 .left) ∙ bit b)
-    ∙ sym (meaning _ _ _ (b .before .before .before .before .pre))
+    let b = c .before .before .before .before .before in
+    c .question .ensures
+    ∙ ap (λ (t : Bool). done (truth t) (pos 0))
+    (cc (c .before .bit-set .ensures, back-word (arg (b .args .t2) 0) (c .before .before .before .before .x .given), natural-answer (position b) (c .before .before .natural .ensures)))
+    ∙ sym (meaning _ _ _ (b .pre))
 
 pub bit-set-spec : {M : Type 1} → statement M
 bit-set-spec =
@@ -85,7 +69,5 @@ bit-set-spec =
     array-copy-out-natural
     natural-requires
     bit-set-requires
-    done-requires
-    done-requires-2
-    returns
-    returns-2)
+    question-requires
+    returns)

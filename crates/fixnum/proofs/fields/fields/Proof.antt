@@ -1,9 +1,9 @@
--- `fixnum::fields::field_of` meets its contract. Assumes nothing.
+-- `fixnum::fields::fields` meets its contract. Assumes nothing.
 use mathlib.Core.Path.{_≡_, _∙_}
 use native.Mathlib.Omega.{arith}
 use Rattle.fixnum.proofs.DispatchLaws.{accepted-at, outcome-at}
-use Rattle.fixnum.proofs.fields.field_of.Statement.{statement}
-use Rattle.fixnum.proofs.fields.field_of.Tie as tie
+use Rattle.fixnum.proofs.fields.fields.Statement.{statement}
+use Rattle.fixnum.proofs.fields.fields.Tie as tie
 
 last : (c : tie.At-match-rest) → c .before .args .code ≡ 36
 last c = omega arith
@@ -32,8 +32,8 @@ returns-3 c = c .bit-field .ensures ∙ outcome-at _ _ (c .before .match .keys3)
 returns-4 : tie.Need-returns-4
 returns-4 c = c .copy-bit-field .ensures ∙ outcome-at _ _ (last (c .before))
 
-pub field-of-spec : {M : Type 1} → statement M
-field-of-spec =
+pub fields-spec : {M : Type 1} → statement M
+fields-spec =
     tie.close
     (tie.spec
     bit-set-requires

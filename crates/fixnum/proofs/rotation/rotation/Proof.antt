@@ -1,9 +1,9 @@
--- `fixnum::rotation::move_bits` meets its contract. Assumes nothing.
+-- `fixnum::rotation::rotation` meets its contract. Assumes nothing.
 use mathlib.Core.Path.{_≡_, _∙_}
 use native.Mathlib.Omega.{arith}
 use Rattle.fixnum.proofs.DispatchLaws.{accepted-at, outcome-at}
-use Rattle.fixnum.proofs.rotation.move_bits.Statement.{statement}
-use Rattle.fixnum.proofs.rotation.move_bits.Tie as tie
+use Rattle.fixnum.proofs.rotation.rotation.Statement.{statement}
+use Rattle.fixnum.proofs.rotation.rotation.Tie as tie
 
 last : (c : tie.At-match-rest) → c .before .args .code ≡ 41
 last c = omega arith
@@ -20,5 +20,5 @@ returns c = c .rotate .ensures ∙ outcome-at _ _ (c .before .match .keys1)
 returns-2 : tie.Need-returns-2
 returns-2 c = c .reverse .ensures ∙ outcome-at _ _ (last (c .before))
 
-pub move-bits-spec : {M : Type 1} → statement M
-move-bits-spec = tie.close (tie.spec rotate-requires reverse-requires returns returns-2)
+pub rotation-spec : {M : Type 1} → statement M
+rotation-spec = tie.close (tie.spec rotate-requires reverse-requires returns returns-2)
