@@ -1,5 +1,5 @@
 -- Rules that hold of every row of the table, each a computed test; and cases on the code. Assumes nothing.
-use Prim.Native.Nat.{ℕ, zero, suc, _+_, _-_, _≤_, _<_}
+use Prim.Native.Nat.{ℕ, zero, suc, _+_, _*_, _/_, _%_, _-_, _≤_, _<_}
 use native.Mathlib.Nat.{le-trans, le-of-suc-le-suc, not-suc-le-zero}
 use native.Mathlib.Omega.{arith}
 use mathlib.Core.Path.{_≡_, refl, sym, ap, _∙_, subst}
@@ -28,11 +28,13 @@ unfolding rowOf
 of-row p h k code = all-getD p rows noRow h k (code - 1)
 
 -- no code takes more than four arguments
+most-four : (code : ℕ) → rowOf code .most ≤ 4
+unfolding rows noRow
+most-four code = leb-true (rowOf code .most) 4 (of-row (λ r. leb (r .most) 4) refl refl code)
+
 pub at-most-four : (code count : ℕ) → isCount code count ≡ true → count ≤ 4
-unfolding isCount rows noRow
-at-most-four code count h =
-    le-trans (between (rowOf code .least) count (rowOf code .most) h .1)
-    (leb-true (rowOf code .most) 4 (of-row (λ r. leb (r .most) 4) refl refl code))
+unfolding isCount
+at-most-four code count h = le-trans (between (rowOf code .least) count (rowOf code .most) h .1) (most-four code)
 
 pub code-bounds : (code : ℕ) → isCode code ≡ true → (1 ≤ code) × (code ≤ 41)
 unfolding isCode rows
@@ -44,11 +46,18 @@ getD-map f (r ∷ rs) d zero e h = refl
 getD-map f (r ∷ rs) d (suc i) e h = getD-map f rs d i e (le-of-suc-le-suc h)
 
 -- a column of numbers, as the code holds it
-pub column : (f : Row → ℕ) (ns : List ℕ) → ns ≡ map f rows → (code : ℕ) → isCode code ≡ true → getD ns (code - 1) 0 ≡ f (rowOf code)
+column : (f : Row → ℕ) (ns : List ℕ) → ns ≡ map f rows → (code : ℕ) → isCode code ≡ true → getD ns (code - 1) 0 ≡ f (rowOf code)
 unfolding rowOf rows
 column f ns e code h =
     let b = code-bounds code h in
     ap (λ (l : List ℕ). getD l (code - 1) 0) e ∙ getD-map f rows noRow (code - 1) 0 (omega arith)
+
+-- both counts of a code in one number of two hexadecimal digits
+pub counts-column : (ns : List ℕ) → ns ≡ map (λ r. r .least * 16 + r .most) rows → (code : ℕ) → isCode code ≡ true
+    → (getD ns (code - 1) 0 / 16 ≡ rowOf code .least) × (getD ns (code - 1) 0 % 16 ≡ rowOf code .most)
+counts-column ns e code h =
+    let c = column (λ r. r .least * 16 + r .most) ns e code h in
+    (omega (arith, c, most-four code), omega (arith, c, most-four code))
 
 -- cases on a code from a to a + k - 1
 abbrev Each : (ℕ → Type 0) → ℕ → ℕ → Type 0

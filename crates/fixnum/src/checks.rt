@@ -16,93 +16,49 @@ const LARGEST_WIDTH: u64 = 62;
 
 const CODES: u64 = 41;
 
-// The least and the largest argument count of codes 1, 2, ..
-const LEAST: [u64; 41] = [
-    2,
-    2,
-    2,
-    2,
-    2,
-    1,
-    1,
-    1,
-    1,
-    1,
-    1,
-    1,
-    2,
-    2,
-    1,
-    2,
-    2,
-    2,
-    2,
-    2,
-    2,
-    3,
-    3,
-    3,
-    1,
-    0,
-    0,
-    0,
-    3,
-    1,
-    1,
-    1,
-    2,
-    3,
-    3,
-    4,
-    2,
-    2,
-    2,
-    4,
-    3,
-];
-
-const MOST: [u64; 41] = [
-    4,
-    4,
-    4,
-    4,
-    4,
-    1,
-    1,
-    1,
-    1,
-    1,
-    4,
-    4,
-    2,
-    2,
-    2,
-    2,
-    2,
-    2,
-    2,
-    2,
-    2,
-    3,
-    3,
-    3,
-    1,
-    4,
-    4,
-    4,
-    3,
-    1,
-    1,
-    1,
-    2,
-    3,
-    3,
-    4,
-    2,
-    2,
-    2,
-    4,
-    3,
+// The argument counts of each code: the least, and the largest.
+const COUNTS: [u64; 41] = [
+    0x24, // 1 fx=?
+    0x24, // 2 fx>?
+    0x24, // 3 fx<?
+    0x24, // 4 fx>=?
+    0x24, // 5 fx<=?
+    0x11, // 6 fxzero?
+    0x11, // 7 fxpositive?
+    0x11, // 8 fxnegative?
+    0x11, // 9 fxodd?
+    0x11, // 10 fxeven?
+    0x14, // 11 fxmax
+    0x14, // 12 fxmin
+    0x22, // 13 fx+
+    0x22, // 14 fx*
+    0x12, // 15 fx-
+    0x22, // 16 fxdiv
+    0x22, // 17 fxmod
+    0x22, // 18 fxdiv-and-mod
+    0x22, // 19 fxdiv0
+    0x22, // 20 fxmod0
+    0x22, // 21 fxdiv0-and-mod0
+    0x33, // 22 fx+/carry
+    0x33, // 23 fx-/carry
+    0x33, // 24 fx*/carry
+    0x11, // 25 fxnot
+    0x04, // 26 fxand
+    0x04, // 27 fxior
+    0x04, // 28 fxxor
+    0x33, // 29 fxif
+    0x11, // 30 fxbit-count
+    0x11, // 31 fxlength
+    0x11, // 32 fxfirst-bit-set
+    0x22, // 33 fxbit-set?
+    0x33, // 34 fxcopy-bit
+    0x33, // 35 fxbit-field
+    0x44, // 36 fxcopy-bit-field
+    0x22, // 37 fxarithmetic-shift
+    0x22, // 38 fxarithmetic-shift-left
+    0x22, // 39 fxarithmetic-shift-right
+    0x44, // 40 fxrotate-bit-field
+    0x33, // 41 fxreverse-bit-field
 ];
 
 pub fn is_width(width: u64) -> bool
@@ -122,7 +78,8 @@ pub fn is_count(code: u64, count: u64) -> bool
     ensures { λ r. ⌜ r ≡ isCount code count ⌝ }
 {
     let row = (code - 1) as usize;
-    LEAST[row] <= count && count <= MOST[row]
+    let counts = COUNTS[row];
+    counts / 16 <= count && count <= counts % 16
 }
 
 // Which arguments of an operation have a domain of their own.
