@@ -1,0 +1,35 @@
+-- Integers as lists of 32-bit limbs, least significant first, in two's complement.
+--   limbSize             ==  32
+--   isLimb n             ==  whether n is below 2^32
+--   areLimbs xs          ==  whether xs has a limb, and each of its elements is one
+--   value xs             ==  the integer: the top bit of the last limb continues for ever
+--   limbOf z j           ==  limb j of z: its bits from 32 j on
+--   limbCount z          ==  how many limbs z needs: room for its length and one bit for its sign
+--   shortest z           ==  the shortest limbs of z
+use Prim.Native.Nat.{ℕ, zero, suc, _+_, _*_, _/_, _^_}
+use mathlib.Core.Bool.{Bool, true, _&&_}
+use mathlib.Core.List.{List, [], _∷_}
+use lib.Dec.{ltb}
+use lib.IntN.{ℤ, pos}
+use Rattle.bits.specs.Testbit.{testbit, bitLength, fill, ofBits}
+use Rattle.bits.specs.Shift.{shiftRight}
+use Rattle.bits.specs.Division.{modℕ}
+
+-- the 32 bits of a limb, and above them the bits of t
+unfoldable pub onTop : ℕ → ℤ → ℤ
+onTop n t = ofBits 32 (λ i. testbit (pos n) i) t
+
+unfoldable pub value : List ℕ → ℤ
+value [] = pos 0
+value (n ∷ []) = onTop n (fill (testbit (pos n) 31))
+value (n ∷ m ∷ ms) = onTop n (value (m ∷ ms))
+
+unfoldable pub limbsOf : ℕ → ℤ → List ℕ
+limbsOf zero z = []
+limbsOf (suc k) z = modℕ z (2 ^ 32) ∷ limbsOf k (shiftRight z 32)
+
+unfoldable pub limbCount : ℤ → ℕ
+limbCount z = bitLength z / 32 + 1
+
+unfoldable pub shortest : ℤ → List ℕ
+shortest z = limbsOf (limbCount z) z
