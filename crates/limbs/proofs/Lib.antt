@@ -1,2 +1,3 @@
 pub mod ValueLaws
+pub mod LimbLaws
 pub mod Cases

@@ -10,7 +10,7 @@ use lib.Dec.{ltb, lit<}
 use lib.IntN.{ℤ, pos}
 use lib.ListN.{length, getD}
 use lib.Pow.{pow-mono}
-use borrow.Author.Tests.{lt-ltb, ltb-true, ltb-false}
+use borrow.Author.Tests.{ltb-true, ltb-false}
 use Rattle.bits.specs.Testbit.{isNegative, testbit, bitLength, fill, ofBits}
 use Rattle.bits.specs.Shift.{shiftRight}
 use Rattle.bits.specs.Division.{modℕ}
@@ -19,6 +19,7 @@ use Rattle.bits.proofs.LengthLaws.{bitLength-least-bits}
 use Rattle.bits.proofs.ShiftLaws.{shiftRight-above}
 use Rattle.bits.proofs.ModLaws.{modℕ-lt}
 use Rattle.bits.proofs.ValueLaws.{testbit-modℕ-pow}
+use Rattle.bits.proofs.FieldWords.{testbit-modℕ-lt}
 use Rattle.limbs.specs.Value.{onTop, value, limbsOf, limbCount, shortest}
 
 -- ---- one limb below an integer
@@ -35,15 +36,12 @@ isNegative-onTop : (n : ℕ) (t : ℤ) → isNegative (onTop n t) ≡ isNegative
 unfolding onTop
 isNegative-onTop n t = isNegative-ofBits 32 (λ i. testbit (pos n) i) t
 
-low-bit : (z : ℤ) (i : ℕ) → i < 32 → testbit (pos (modℕ z (2 ^ 32))) i ≡ testbit z i
-low-bit z i h = testbit-modℕ-pow z 32 i ∙ ap (λ (t : Bool). t && testbit z i) (lt-ltb i 32 h)
-
 -- an integer is its low limb below the rest
 pub onTop-split : (z : ℤ) → onTop (modℕ z (2 ^ 32)) (shiftRight z 32) ≡ z
 onTop-split z = testbit-ext (λ i. go i (ltb i 32) refl)
   where
     go : (i : ℕ) (b : Bool) → ltb i 32 ≡ b → testbit (onTop (modℕ z (2 ^ 32)) (shiftRight z 32)) i ≡ testbit z i
-    go i true e = testbit-onTop-lt (modℕ z (2 ^ 32)) (shiftRight z 32) i (ltb-true i 32 e) ∙ low-bit z i (ltb-true i 32 e)
+    go i true e = testbit-onTop-lt (modℕ z (2 ^ 32)) (shiftRight z 32) i (ltb-true i 32 e) ∙ testbit-modℕ-lt z 32 i (ltb-true i 32 e)
     go i false e =
         let h = ltb-false i 32 e in
         let m : 32 + (i - 32) ≡ i = omega arith in
@@ -55,19 +53,20 @@ high-onTop n t = testbit-ext (λ i.
     let m : 32 + i - 32 ≡ i = omega arith in
     testbit-shiftRight (onTop n t) 32 i ∙ testbit-onTop-ge n t (32 + i) h ∙ ap (testbit t) m)
 
-pos-injective : (m n : ℕ) → pos m ≡ pos n → m ≡ n
+pub pos-injective : (m n : ℕ) → pos m ≡ pos n → m ≡ n
 pos-injective m n e = cc
 
-sign-pos : (n : ℕ) → isNegative (pos n) ≡ false
+-- a limb has no ones from bit 32 on
+pub small-bits : (n i : ℕ) → n < 2 ^ 32 → 32 ≤ i → testbit (pos n) i ≡ false
 unfolding isNegative
-sign-pos n = refl
+small-bits n i h k = testbit-mag-lt (pos n) i (lt-of-lt-of-le h (pow-mono k))
 
 pub low-onTop : (n : ℕ) (t : ℤ) → n < 2 ^ 32 → modℕ (onTop n t) (2 ^ 32) ≡ n
 low-onTop n t h = pos-injective (modℕ (onTop n t) (2 ^ 32)) n (testbit-ext (λ i. testbit-modℕ-pow (onTop n t) 32 i ∙ go i (ltb i 32) refl))
   where
     go : (i : ℕ) (b : Bool) → ltb i 32 ≡ b → b && testbit (onTop n t) i ≡ testbit (pos n) i
     go i true e = testbit-onTop-lt n t i (ltb-true i 32 e)
-    go i false e = sym (testbit-mag-lt (pos n) i (lt-of-lt-of-le h (pow-mono (ltb-false i 32 e))) ∙ sign-pos n)
+    go i false e = sym (small-bits n i h (ltb-false i 32 e))
 
 -- ---- the value of limbs
 
@@ -124,7 +123,7 @@ pub value-limbsOf : (k : ℕ) (z : ℤ) → bitLength z < 32 * k → value (limb
 unfolding value limbsOf
 value-limbsOf zero z h = absurd (omega arith)
 value-limbsOf (suc zero) z h =
-    ap (λ (s : Bool). onTop (modℕ z (2 ^ 32)) (fill s)) (low-bit z 31 (lit< tt) ∙ testbit-above z 31 (omega arith))
+    ap (λ (s : Bool). onTop (modℕ z (2 ^ 32)) (fill s)) (testbit-modℕ-lt z 32 31 (lit< tt) ∙ testbit-above z 31 (omega arith))
     ∙ ap (onTop (modℕ z (2 ^ 32))) (sym (shiftRight-above z 32 (omega arith)))
     ∙ onTop-split z
 value-limbsOf (suc (suc k)) z h =

@@ -1,21 +1,17 @@
 -- Integers as lists of 32-bit limbs, least significant first, in two's complement.
---   limbSize             ==  32
---   isLimb n             ==  whether n is below 2^32
---   areLimbs xs          ==  whether xs has a limb, and each of its elements is one
+--   onTop n t            ==  the 32 bits of the limb n, and above them the bits of t
 --   value xs             ==  the integer: the top bit of the last limb continues for ever
---   limbOf z j           ==  limb j of z: its bits from 32 j on
+--   bitsFrom z at        ==  the 32 bits of z from a position on, as a limb
+--   limbsOf k z          ==  the k lowest limbs of z
 --   limbCount z          ==  how many limbs z needs: room for its length and one bit for its sign
 --   shortest z           ==  the shortest limbs of z
-use Prim.Native.Nat.{ℕ, zero, suc, _+_, _*_, _/_, _^_}
-use mathlib.Core.Bool.{Bool, true, _&&_}
+use Prim.Native.Nat.{ℕ, zero, suc, _+_, _/_, _^_}
 use mathlib.Core.List.{List, [], _∷_}
-use lib.Dec.{ltb}
 use lib.IntN.{ℤ, pos}
 use Rattle.bits.specs.Testbit.{testbit, bitLength, fill, ofBits}
 use Rattle.bits.specs.Shift.{shiftRight}
 use Rattle.bits.specs.Division.{modℕ}
 
--- the 32 bits of a limb, and above them the bits of t
 unfoldable pub onTop : ℕ → ℤ → ℤ
 onTop n t = ofBits 32 (λ i. testbit (pos n) i) t
 
@@ -23,6 +19,9 @@ unfoldable pub value : List ℕ → ℤ
 value [] = pos 0
 value (n ∷ []) = onTop n (fill (testbit (pos n) 31))
 value (n ∷ m ∷ ms) = onTop n (value (m ∷ ms))
+
+unfoldable pub bitsFrom : ℤ → ℕ → ℕ
+bitsFrom z at = modℕ (shiftRight z at) (2 ^ 32)
 
 unfoldable pub limbsOf : ℕ → ℤ → List ℕ
 limbsOf zero z = []
