@@ -1,3 +1,6 @@
 pub mod ValueLaws
 pub mod LimbLaws
+pub mod MeasureLaws
+pub mod BufferLaws
+pub mod LogicalLaws
 pub mod Cases

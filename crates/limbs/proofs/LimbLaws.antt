@@ -56,7 +56,7 @@ unfolding bitsFrom
 bitsFrom-above z at h = ap (λ (y : ℤ). modℕ y (2 ^ 32)) (shiftRight-above z at h) ∙ bitsFrom-fill (isNegative z)
 
 -- the top bit of a limb
-top-bit : (n : ℕ) → n < 2 ^ 32 → testbit (pos n) 31 ≡ not (ltb n 0x80000000)
+pub top-bit : (n : ℕ) → n < 2 ^ 32 → testbit (pos n) 31 ≡ not (ltb n 0x80000000)
 unfolding testbit odd
 top-bit n h = go (ltb n 0x80000000) refl
   where

@@ -1,3 +1,4 @@
 pub mod Value
 pub mod Buffer
 pub mod Operations
+pub mod Results

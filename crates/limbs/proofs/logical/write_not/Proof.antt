@@ -1,0 +1,57 @@
+-- `limbs::logical::write_not` meets its contract. The invariant: the first j limbs are written, and the rest is as it was. Assumes nothing.
+use Prim.Native.Nat.{_-_}
+use native.Mathlib.Omega.{arith}
+use Rattle.bits.specs.Logical.{bitwiseNot}
+use Rattle.limbs.specs.Value.{value}
+use Rattle.limbs.proofs.BufferLaws.{Wrote, wrote-none, wrote-more, wrote-all}
+use Rattle.limbs.proofs.logical.write_not.Statement.{statement}
+use Rattle.limbs.proofs.logical.write_not.Tie as tie
+
+abbrev Inv-loop : tie.InvT-loop
+Inv-loop x n part₀ j₀ part j = Wrote (bitwiseNot (value x)) part₀ part n j
+
+abbrev μ-loop : tie.MeasureT-loop
+μ-loop x n part₀ j₀ part j = n - j
+
+loop-holds : tie.Need-loop-holds Inv-loop μ-loop
+loop-holds c = wrote-none _ _ _
+
+not-limb-requires : tie.Need-not-limb-requires Inv-loop μ-loop
+not-limb-requires c κs = c .before .before .before .before .pre .0
+
+mul-part : tie.Need-mul-part Inv-loop μ-loop
+mul-part c = omega arith
+
+slice-write-part : tie.Need-slice-write-part Inv-loop μ-loop
+slice-write-part c = omega arith
+
+add-j : tie.Need-add-j Inv-loop μ-loop
+add-j c = omega arith
+
+loop-less : tie.Need-loop-less Inv-loop μ-loop
+loop-less c = omega arith
+
+loop-again : tie.Need-loop-again Inv-loop μ-loop
+loop-again c = wrote-more _ (c .before .before .loop .inv) (c .not-limb .ensures) (c .before .loop-test .taken) (c .before .before .before .before .before .pre .1)
+
+same-length : tie.Need-same-length Inv-loop μ-loop
+same-length c = c .before .loop .inv .size
+
+returns : tie.Need-returns Inv-loop μ-loop
+returns c = wrote-all (c .before .loop .inv) (c .loop-test .left)
+
+pub write-not-spec : {M : Type 1} → statement M
+write-not-spec =
+    tie.close
+    (tie.spec
+    Inv-loop
+    μ-loop
+    loop-holds
+    not-limb-requires
+    mul-part
+    slice-write-part
+    add-j
+    loop-less
+    loop-again
+    same-length
+    returns)
