@@ -1,5 +1,5 @@
 -- Integers that fit a width: what an operation makes of them fits it too. Assumes nothing.
-use Prim.Native.Nat.{ℕ, zero, suc, _+_, _*_, _-_, _/_, _^_, _≤_, _<_}
+use Prim.Native.Nat.{ℕ, zero, suc, _*_, _-_, _/_, _^_, _≤_, _<_}
 use native.Mathlib.Nat.{le-refl, le-trans, lt-of-lt-of-le, lt-of-le-of-lt, pow-suc, div-lt-iff-lt-mul}
 use native.Mathlib.Omega.{arith}
 use mathlib.Core.Path.{_≡_, refl, sym, ap, _∙_, subst}
@@ -36,10 +36,12 @@ lt-two-pow : (k : ℕ) → k < 2 ^ k
 lt-two-pow zero = lit< tt
 lt-two-pow (suc k) = omega (arith, pow-suc 2 k, lt-two-pow k)
 
--- 2^w is twice 2^(w-1)
-half-pow : (w : ℕ) → 0 < w → 2 ^ w / 2 ≡ 2 ^ (w - 1)
-half-pow zero h = absurd (omega arith)
-half-pow (suc w) h = let e : suc w - 1 ≡ w = omega arith in rw e (omega (arith, pow-suc 2 w))
+double : (w : ℕ) → 0 < w → 2 ^ w ≡ 2 * 2 ^ (w - 1)
+double zero h = absurd (omega arith)
+double (suc w) h = let e : suc w - 1 ≡ w = omega arith in rw e (omega (arith, pow-suc 2 w))
+
+half : (w : ℕ) → 0 < w → 2 ^ w / 2 ≡ 2 ^ (w - 1)
+half w h = omega (arith, double w h)
 
 onesBelow-le : (k : ℕ) (f : ℕ → Bool) → onesBelow k f ≤ k
 unfolding onesBelow
@@ -133,11 +135,13 @@ module _ (w : ℕ) where
   pub low-fits : (x : ℤ) → 0 < w → fits w (mod0 x (pos (2 ^ w))) ≡ true
   low-fits x h = is-true (mod0-pow-fits w x h)
 
-  pub high-fits : (x : ℤ) → 0 < w → mag (x +ℤ pos (2 ^ (w - 1))) < 2 ^ (w - 1) * 2 ^ w → fits w (div0 x (pos (2 ^ w))) ≡ true
+  pub high-fits : (x : ℤ) → 0 < w → mag (x +ℤ pos (2 ^ (w - 1))) < 2 ^ (w - 1) * (2 * 2 ^ (w - 1)) → fits w (div0 x (pos (2 ^ w))) ≡ true
   unfolding div0 div
   high-fits x h l =
-      rw (half-pow w h)
-      (magnitude-fits (floorDiv (x +ℤ pos (2 ^ (w - 1))) (2 ^ w)) (rw (mag-floorDiv (x +ℤ pos (2 ^ (w - 1))) (2 ^ w)) (div-lt-iff-lt-mul (pow-pos w) .1 l)))
+      let y = x +ℤ pos (2 ^ (w - 1)) in
+      rw (half w h)
+      (magnitude-fits (floorDiv y (2 ^ w))
+      (rw (mag-floorDiv y (2 ^ w)) (div-lt-iff-lt-mul (pow-pos w) .1 (subst (λ (m : ℕ). mag y < 2 ^ (w - 1) * m) (sym (double w h)) l))))
 
 -- ---- operations on bits
 

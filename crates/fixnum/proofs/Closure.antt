@@ -1,11 +1,11 @@
 -- The results of every call are fixnums at its width, so a done answer can be handed to the next call. Assumes nothing.
-use Prim.Native.Nat.{ℕ, suc}
+use Prim.Native.Nat.{ℕ}
 use native.Mathlib.Omega.{arith}
-use mathlib.Core.Path.{_≡_, refl}
+use mathlib.Core.Path.{_≡_, refl, sym, ap, _∙_}
 use mathlib.Core.Bool.{Bool, true, false, _&&_, _||_, xor}
 use mathlib.Core.List.{List, [], _∷_}
 use lib.Dec.{eqb}
-use lib.IntN.{ℤ, natAbs, _+ℤ_, _-ℤ_, _*ℤ_}
+use lib.IntN.{ℤ, natAbs}
 use lib.Signed.{leZ, ltZ}
 use Rattle.bits.specs.Testbit.{testbit, fits}
 use Rattle.bits.specs.Logical.{bitwiseAnds, bitwiseIors, bitwiseXors}
@@ -18,6 +18,7 @@ use Rattle.fixnum.specs.Table.{rows, rowOf, isCode}
 use Rattle.fixnum.specs.Calls.{counted, isCount, allFixnums, sized, outcome, fixnumAnswer}
 use Rattle.fixnum.proofs.TableLaws.{code-bounds, from-to}
 use Rattle.fixnum.proofs.ResultLaws.{
+  Fixnums,
   question-fits,
   largest-fits,
   smallest-fits,
@@ -50,60 +51,64 @@ stage w k true a f = f refl
 stage w k false a f = (zero-fits w, zero-fits w)
 
 -- the first result is tested for its size
-tested : (w k : ℕ) (r : ℤ × ℤ) → fits w (r .1) ≡ true → Results w (sized (suc k) w r)
+tested : (w k : ℕ) (r : ℤ × ℤ) → eqb k 0 ≡ false → fits w (r .1) ≡ true → Results w (sized k w r)
 unfolding sized done
-tested w k r g = stage w (suc k) (fits w (r .0)) (done (r .0) (r .1)) (λ f. (f, g))
+tested w k r z g =
+    stage w k (eqb k 0 || fits w (r .0)) (done (r .0) (r .1)) (λ t. (ap (λ (b : Bool). b || fits w (r .0)) (sym z) ∙ t, g))
 
-module _ (w : ℕ) (a : isWidth w ≡ true) (xs : List ℤ) (f : allFixnums w xs ≡ true) where
+-- a fact of one code, and those of the codes after it
+infixr 40 _▸_
+abbrev _▸_ : {A B : Type 0} → A → B → A × B
+x ▸ y = (x, y)
+
+module _ {w : ℕ} {xs : List ℤ} (g : Fixnums w xs) where
   outcome-fits : (code : ℕ) → isCode code ≡ true → inDomains (rowOf code .domains) w xs ≡ true → Results w (outcome w code xs)
   unfolding outcome rowOf rows sized unless done two every pair bitwiseAnds bitwiseIors bitwiseXors
   outcome-fits code c =
       let b = code-bounds code c in
       from-to (λ c. inDomains (rowOf c .domains) w xs ≡ true → Results w (outcome w c xs)) 1 41
-      (
-        λ d. question-fits w a xs f (chain equal),
-        λ d. question-fits w a xs f (chain greater),
-        λ d. question-fits w a xs f (chain ltZ),
-        λ d. question-fits w a xs f (chain greaterOrEqual),
-        λ d. question-fits w a xs f (chain leZ),
-        λ d. question-fits w a xs f isZero,
-        λ d. question-fits w a xs f isPositive,
-        λ d. question-fits w a xs f isBelowZero,
-        λ d. question-fits w a xs f isOdd,
-        λ d. question-fits w a xs f isEven,
-        λ d. largest-fits w a xs f,
-        λ d. smallest-fits w a xs f,
-        λ d. tested w 5 _ (zero-fits w),
-        λ d. tested w 5 _ (zero-fits w),
-        λ d. tested w 4 _ (zero-fits w),
-        λ d. tested w 5 _ (zero-fits w),
-        λ d. (mod-result-fits w a xs f d, zero-fits w),
-        λ d. tested w 5 _ (mod-result-fits w a xs f d),
-        λ d. tested w 5 _ (zero-fits w),
-        λ d. (mod0-result-fits w a xs f d, zero-fits w),
-        λ d. tested w 5 _ (mod0-result-fits w a xs f d),
-        λ d. sum-carry-fits w a xs f,
-        λ d. difference-carry-fits w a xs f,
-        λ d. product-carry-fits w a xs f,
-        λ d. not-result-fits w a xs f,
-        λ d. all-result-fits w a xs f _&&_ true,
-        λ d. all-result-fits w a xs f _||_ false,
-        λ d. all-result-fits w a xs f xor false,
-        λ d. if-result-fits w a xs f,
-        λ d. count-fits w a xs f,
-        λ d. length-fits w a xs f,
-        λ d. first-bit-fits w a xs f,
-        λ d. question-fits w a xs f (λ xs. testbit (arg xs 0) (natAbs (arg xs 1))),
-        λ d. copy-bit-fits w a xs f,
-        λ d. field-fits w a xs f [] d,
-        λ d. copy-field-fits w a xs f [] d,
-        λ d. tested w 5 _ (zero-fits w),
-        λ d. tested w 5 _ (zero-fits w),
-        λ d. right-shift-fits w a xs f,
-        λ d. rotate-fits w a xs f (rotation ∷ []) d,
-        λ d. reverse-fits w a xs f [] d,
-        tt,
-      )
+      ((λ d. question-fits g (chain equal))  -- 1
+      ▸ (λ d. question-fits g (chain greater))
+      ▸ (λ d. question-fits g (chain ltZ))
+      ▸ (λ d. question-fits g (chain greaterOrEqual))
+      ▸ (λ d. question-fits g (chain leZ))
+      ▸ (λ d. question-fits g isZero)  -- 6
+      ▸ (λ d. question-fits g isPositive)
+      ▸ (λ d. question-fits g isBelowZero)
+      ▸ (λ d. question-fits g isOdd)
+      ▸ (λ d. question-fits g isEven)
+      ▸ (λ d. largest-fits g)  -- 11
+      ▸ (λ d. smallest-fits g)
+      ▸ (λ d. tested w 6 _ refl (zero-fits w))
+      ▸ (λ d. tested w 6 _ refl (zero-fits w))
+      ▸ (λ d. tested w 5 _ refl (zero-fits w))
+      ▸ (λ d. tested w 6 _ refl (zero-fits w))
+      ▸ (λ d. (mod-result-fits g d, zero-fits w))  -- 17
+      ▸ (λ d. tested w 6 _ refl (mod-result-fits g d))
+      ▸ (λ d. tested w 6 _ refl (zero-fits w))
+      ▸ (λ d. (mod0-result-fits g d, zero-fits w))  -- 20
+      ▸ (λ d. tested w 6 _ refl (mod0-result-fits g d))
+      ▸ (λ d. sum-carry-fits g)  -- 22
+      ▸ (λ d. difference-carry-fits g)
+      ▸ (λ d. product-carry-fits g)
+      ▸ (λ d. not-result-fits g)  -- 25
+      ▸ (λ d. all-result-fits g _&&_ true)
+      ▸ (λ d. all-result-fits g _||_ false)
+      ▸ (λ d. all-result-fits g xor false)
+      ▸ (λ d. if-result-fits g)
+      ▸ (λ d. count-fits g)  -- 30
+      ▸ (λ d. length-fits g)
+      ▸ (λ d. first-bit-fits g)
+      ▸ (λ d. question-fits g (λ xs. testbit (arg xs 0) (natAbs (arg xs 1))))  -- 33
+      ▸ (λ d. copy-bit-fits g)
+      ▸ (λ d. field-fits g [] d)  -- 35
+      ▸ (λ d. copy-field-fits g [] d)
+      ▸ (λ d. tested w 6 _ refl (zero-fits w))
+      ▸ (λ d. tested w 6 _ refl (zero-fits w))
+      ▸ (λ d. right-shift-fits g)  -- 39
+      ▸ (λ d. rotate-fits g (rotation ∷ []) d)
+      ▸ (λ d. reverse-fits g [] d)
+      ▸ tt)
       code (b .0) (omega arith)
 
 pub results-fit : (w code : ℕ) (places : List ℤ) (count : ℕ)
@@ -115,4 +120,4 @@ results-fit w code places count =
     stage w 2 (isCode code) _ (λ c.
     stage w 3 (isCount code count) _ (λ n.
     stage w 4 (allFixnums w xs) _ (λ f.
-    stage w 5 (inDomains (rowOf code .domains) w xs) _ (λ d. outcome-fits w a xs f code c d)))))
+    stage w 5 (inDomains (rowOf code .domains) w xs) _ (λ d. outcome-fits (record { width = a; all = f }) code c d)))))

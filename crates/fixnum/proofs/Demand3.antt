@@ -14,7 +14,7 @@ use borrow.Author.Tests.{lt-ltb, le-leb}
 use Rattle.bits.specs.Testbit.{isNegative, testbit, fits, fill}
 use Rattle.bits.specs.Logical.{bitwise, bitwiseNot, bitwiseFrom, bitwiseAll, bitwiseAnds, bitwiseIors, bitwiseXors}
 use Rattle.bits.specs.Count.{bitCount}
-use Rattle.bits.specs.Field.{inField, rotateBitField, reverseBitField}
+use Rattle.bits.specs.Field.{rotateBitField, reverseBitField}
 use Rattle.bits.specs.FieldList.{FieldCall, rotate, reverse, runCall, runCalls, netCount, oddReversals}
 use Rattle.bits.proofs.LengthLaws.{fits-not}
 use Rattle.bits.proofs.FieldLaws.{inField-ge}

@@ -1,22 +1,22 @@
 -- The results of each operation on fixnums are fixnums, by families of codes; a first result that is tested for its size is left out.
 -- Assumes nothing.
 use Prim.Native.Nat.{ℕ, zero, suc, _+_, _*_, _-_, _≤_, _<_, _^_}
-use native.Mathlib.Nat.{le-suc, le-refl, le-trans, mul-le-mul, pow-suc}
+use native.Mathlib.Nat.{le-suc, le-refl, mul-le-mul}
 use native.Mathlib.Omega.{arith}
 use mathlib.Core.Path.{_≡_, _∙_}
-use mathlib.Core.Bool.{Bool, true, false, cond, _&&_, _||_, xor}
+use mathlib.Core.Bool.{Bool, true, false, cond}
 use mathlib.Core.List.{List, [], _∷_}
 use lib.Dec.{ltb}
 use lib.IntN.{ℤ, pos, negsuc, natAbs, _+ℤ_, _-ℤ_, _*ℤ_}
 use lib.Pow.{pow-mono}
-use lib.Signed.{mag, leZ, ltZ, natAbs-le}
+use lib.Signed.{mag, ltZ, natAbs-le}
 use borrow.Author.Tests.{ltb-true}
 use Rattle.bits.specs.Testbit.{bitLength, fits}
 use Rattle.bits.specs.Logical.{bitwiseNot, bitwiseAll, bitwiseIf}
 use Rattle.bits.specs.Count.{bitCount, firstBitSet}
 use Rattle.bits.specs.Division.{«mod», mod0}
 use Rattle.bits.specs.Shift.{shiftRight}
-use Rattle.bits.specs.Field.{bitField, copyBitField, permuteField, rotateBitField, reverseBitField}
+use Rattle.bits.specs.Field.{bitField, setField, copyBitField, permuteField, rotateBitField, reverseBitField}
 use Rattle.bits.proofs.LengthLaws.{fits-not}
 use Rattle.bits.proofs.FitsLaws.{zero-fits, small-fits, bitLength-fits, bitCount-fits, firstBitSet-fits, mod-fits, mod0-fits, low-fits, high-fits, if-fits, setField-fits, bitField-fits}
 use Rattle.words.proofs.WordLaws.{fits-mag}
@@ -31,6 +31,11 @@ use Rattle.fixnum.proofs.Demand3.{all-fits}
 -- both results are fixnums
 abbrev pub Fit : ℕ → ℤ × ℤ → Type 0
 Fit w r = (fits w (r .0) ≡ true) × (fits w (r .1) ≡ true)
+
+-- arguments that are fixnums, at a width that is accepted
+pub record Fixnums (w : ℕ) (xs : List ℤ) : Type 0 where
+  pub width : isWidth w ≡ true
+  pub all : allFixnums w xs ≡ true
 
 -- each argument is a fixnum, also past the last, where `arg` is 0
 arg-fits : (w : ℕ) (xs : List ℤ) → allFixnums w xs ≡ true → (i : ℕ) → fits w (arg xs i) ≡ true
@@ -56,11 +61,7 @@ mag-le : (x : ℤ) → mag x ≤ natAbs x
 mag-le (pos n) = le-refl n
 mag-le (negsuc n) = le-suc n
 
-double : (w : ℕ) → 0 < w → 2 ^ w ≡ 2 * 2 ^ (w - 1)
-double zero h = absurd (omega arith)
-double (suc w) h = let e : suc w - 1 ≡ w = omega arith in rw e (omega (arith, pow-suc 2 w))
-
--- with b = 2^(w-1): what is at most b^2 + b, and b more, is below b 2^w
+-- what is at most b^2 + b, and b more, is below 2 b^2
 room : (b n : ℕ) → 4 ≤ b → n ≤ b * b + b + b → n < b * (2 * b)
 room b n h l = let k : 4 * b ≤ b * b = mul-le-mul h (le-refl b) in omega arith
 
@@ -85,15 +86,15 @@ end-le k (pos a) (pos b) h l = between a b k l .1
 end-le k (pos a) (negsuc b) h l = let z : _≡_ {A = ℕ} 0 1 = cc in absurd (omega arith)
 end-le k (negsuc a) e h l = let z : _≡_ {A = ℕ} 0 1 = cc in absurd (omega arith)
 
-module _ (w : ℕ) (a : isWidth w ≡ true) (xs : List ℤ) (f : allFixnums w xs ≡ true) where
+module _ {w : ℕ} {xs : List ℤ} (g : Fixnums w xs) where
   wide : 24 ≤ w
-  wide = width-bounds w a .0
+  wide = width-bounds w (g .width) .0
 
   positive : 0 < w
   positive = omega (arith, wide)
 
   at : (i : ℕ) → fits w (arg xs i) ≡ true
-  at = arg-fits w xs f
+  at = arg-fits w xs (g .all)
 
   -- ---- 1 to 10, and 33
 
@@ -105,11 +106,11 @@ module _ (w : ℕ) (a : isWidth w ≡ true) (xs : List ℤ) (f : allFixnums w xs
 
   pub largest-fits : Fit w (every largest w xs)
   unfolding every largest larger
-  largest-fits = (fold-fits w larger (λ x y. choice-fits w (ltZ x y) x y) (arg xs 0) xs (at 0) f, zero-fits w)
+  largest-fits = (fold-fits w larger (λ x y. choice-fits w (ltZ x y) x y) (arg xs 0) xs (at 0) (g .all), zero-fits w)
 
   pub smallest-fits : Fit w (every smallest w xs)
   unfolding every smallest smaller
-  smallest-fits = (fold-fits w smaller (λ x y. choice-fits w (ltZ y x) x y) (arg xs 0) xs (at 0) f, zero-fits w)
+  smallest-fits = (fold-fits w smaller (λ x y. choice-fits w (ltZ y x) x y) (arg xs 0) xs (at 0) (g .all), zero-fits w)
 
   -- ---- 17, 18, 20 and 21
 
@@ -137,23 +138,24 @@ module _ (w : ℕ) (a : isWidth w ≡ true) (xs : List ℤ) (f : allFixnums w xs
   unfolding half
   absolute i = natAbs-le (arg xs i) (fits-mag w (arg xs i) (at i))
 
-  carry-fits : (g : ℤ → ℤ → ℤ → ℤ) → natAbs (g (arg xs 0) (arg xs 1) (arg xs 2)) ≤ half * half + half → Fit w (carry g w xs)
+  carry-fits : (exact : ℤ → ℤ → ℤ → ℤ)
+      → ((x y z : ℤ) → natAbs x ≤ half → natAbs y ≤ half → natAbs z ≤ half → natAbs (exact x y z) ≤ half * half + half) → Fit w (carry exact w xs)
   unfolding carry half
-  carry-fits g l =
-      let s = g (arg xs 0) (arg xs 1) (arg xs 2) in
-      (low-fits w s positive,
-      high-fits w s positive (rw (double w positive) (room half (mag (s +ℤ pos half)) large (omega (arith, mag-le (s +ℤ pos half), natAbs-add s (pos half))))))
+  carry-fits exact le =
+      let s = exact (arg xs 0) (arg xs 1) (arg xs 2) in
+      let l : natAbs s ≤ half * half + half = le (arg xs 0) (arg xs 1) (arg xs 2) (absolute 0) (absolute 1) (absolute 2) in (
+        low-fits w s positive,
+        high-fits w s positive (room half (mag (s +ℤ pos half)) large (omega (arith, mag-le (s +ℤ pos half), natAbs-add s (pos half)))),
+      )
 
   pub sum-carry-fits : Fit w (carry (λ x y z. (x +ℤ y) +ℤ z) w xs)
-  sum-carry-fits = carry-fits (λ x y z. (x +ℤ y) +ℤ z) (sum-le half large (arg xs 0) (arg xs 1) (arg xs 2) (absolute 0) (absolute 1) (absolute 2))
+  sum-carry-fits = carry-fits (λ x y z. (x +ℤ y) +ℤ z) (sum-le half large)
 
   pub difference-carry-fits : Fit w (carry (λ x y z. (x -ℤ y) -ℤ z) w xs)
-  difference-carry-fits =
-      carry-fits (λ x y z. (x -ℤ y) -ℤ z) (difference-le half large (arg xs 0) (arg xs 1) (arg xs 2) (absolute 0) (absolute 1) (absolute 2))
+  difference-carry-fits = carry-fits (λ x y z. (x -ℤ y) -ℤ z) (difference-le half large)
 
   pub product-carry-fits : Fit w (carry (λ x y z. (x *ℤ y) +ℤ z) w xs)
-  product-carry-fits =
-      carry-fits (λ x y z. (x *ℤ y) +ℤ z) (product-le half large (arg xs 0) (arg xs 1) (arg xs 2) (absolute 0) (absolute 1) (absolute 2))
+  product-carry-fits = carry-fits (λ x y z. (x *ℤ y) +ℤ z) (product-le half large)
 
   -- ---- 25 to 29
 
@@ -163,7 +165,7 @@ module _ (w : ℕ) (a : isWidth w ≡ true) (xs : List ℤ) (f : allFixnums w xs
 
   pub all-result-fits : (op : Bool → Bool → Bool) (e : Bool) → Fit w (every (bitwiseAll op e) w xs)
   unfolding every
-  all-result-fits op e = (all-fits w positive op e xs f, zero-fits w)
+  all-result-fits op e = (all-fits w positive op e xs (g .all), zero-fits w)
 
   pub if-result-fits : Fit w (three bitwiseIf w xs)
   unfolding three
@@ -197,21 +199,24 @@ module _ (w : ℕ) (a : isWidth w ≡ true) (xs : List ℤ) (f : allFixnums w xs
         end-le (w - 1) (arg xs 1) (arg xs 2) (both-left (within (pos 0) (arg xs 1) (pos (w - 1))) _ d)
         (both-left (within (arg xs 1) (arg xs 2) (pos (w - 1))) (inDomainsFrom 3 ds w xs) rest)
 
+    set-field-fits : (new : ℕ → Bool) → fits w (setField (arg xs 0) (natAbs (arg xs 1)) (natAbs (arg xs 2)) new) ≡ true
+    set-field-fits new = setField-fits w positive (arg xs 0) (natAbs (arg xs 1)) (natAbs (arg xs 2)) end-below new (at 0)
+
     pub field-fits : Fit w (three (λ x start end. bitField x (natAbs start) (natAbs end)) w xs)
     unfolding three
     field-fits = (bitField-fits w positive (arg xs 0) (natAbs (arg xs 1)) (natAbs (arg xs 2)) end-below, zero-fits w)
 
     pub copy-field-fits : Fit w (four (λ x start end y. copyBitField x (natAbs start) (natAbs end) y) w xs)
     unfolding four copyBitField
-    copy-field-fits = (setField-fits w positive (arg xs 0) (natAbs (arg xs 1)) (natAbs (arg xs 2)) end-below _ (at 0), zero-fits w)
+    copy-field-fits = (set-field-fits _, zero-fits w)
 
     pub rotate-fits : Fit w (four (λ x start end c. rotateBitField x (natAbs start) (natAbs end) c) w xs)
     unfolding four rotateBitField permuteField
-    rotate-fits = (setField-fits w positive (arg xs 0) (natAbs (arg xs 1)) (natAbs (arg xs 2)) end-below _ (at 0), zero-fits w)
+    rotate-fits = (set-field-fits _, zero-fits w)
 
     pub reverse-fits : Fit w (three (λ x start end. reverseBitField x (natAbs start) (natAbs end)) w xs)
     unfolding three reverseBitField permuteField
-    reverse-fits = (setField-fits w positive (arg xs 0) (natAbs (arg xs 1)) (natAbs (arg xs 2)) end-below _ (at 0), zero-fits w)
+    reverse-fits = (set-field-fits _, zero-fits w)
 
   -- ---- 39
 
