@@ -29,7 +29,7 @@ pub is-true : {t : Bool} → T t → t ≡ true
 is-true {t = true} h = refl
 is-true {t = false} h = absurd h
 
-pub holds : {t : Bool} → t ≡ true → T t
+holds : {t : Bool} → t ≡ true → T t
 holds e = subst T (sym e) tt
 
 lt-two-pow : (k : ℕ) → k < 2 ^ k
