@@ -18,5 +18,6 @@ pub mod RotateWords
 pub mod Locality
 pub mod CountLaws
 pub mod ListTheorem
+pub mod FitsLaws
 pub mod Samples
 pub mod Cases
