@@ -10,6 +10,7 @@ pub mod ShiftLaws
 pub mod ModLaws
 pub mod DivisionLaws
 pub mod ValueLaws
+pub mod Digitwise
 pub mod FieldLaws
 pub mod FieldAlgebra
 pub mod RotateLaws
