@@ -10,6 +10,7 @@ pub mod ShiftLaws
 pub mod ModLaws
 pub mod DivisionLaws
 pub mod ValueLaws
+pub mod Digitwise
 pub mod FieldLaws
 pub mod FieldAlgebra
 pub mod RotateLaws
@@ -18,5 +19,6 @@ pub mod RotateWords
 pub mod Locality
 pub mod CountLaws
 pub mod ListTheorem
+pub mod FitsLaws
 pub mod Samples
 pub mod Cases

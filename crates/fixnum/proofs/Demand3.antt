@@ -1,24 +1,24 @@
 -- Demand 3 for fixnums: every list of codes 40 and 41 on a field, at every accepted width. Assumes nothing.
 use Prim.Native.Nat.{ℕ, zero-le, _-_, _≤_, _<_, _^_}
-use native.Mathlib.Nat.{le-trans, le-of-lt, lt-of-lt-of-le, not-le-of-lt}
+use native.Mathlib.Nat.{le-trans, le-of-lt, lt-of-lt-of-le}
 use native.Mathlib.Omega.{arith}
 use mathlib.Core.Path.{_≡_, refl, sym, ap, _∙_, subst}
 use mathlib.Core.Bool.{Bool, true, false, cond, _&&_, _||_, xor}
 use mathlib.Core.List.{List, [], _∷_, map}
-use lib.Dec.{T, leb, eqb}
+use lib.Dec.{eqb}
 use lib.IntN.{ℤ, pos}
 use lib.ListN.{length, length-map}
-use lib.Pow.{pow-pos, pow-lt}
+use lib.Pow.{pow-lt}
 use lib.Signed.{leZ, ltZ, _≤ℤ_, _<ℤ_}
-use borrow.Author.Tests.{lt-ltb, le-ltb, le-leb}
+use borrow.Author.Tests.{lt-ltb, le-leb}
 use Rattle.bits.specs.Testbit.{isNegative, testbit, fits, fill}
 use Rattle.bits.specs.Logical.{bitwise, bitwiseNot, bitwiseFrom, bitwiseAll, bitwiseAnds, bitwiseIors, bitwiseXors}
 use Rattle.bits.specs.Count.{bitCount}
-use Rattle.bits.specs.Field.{inField, rotateBitField, reverseBitField}
+use Rattle.bits.specs.Field.{rotateBitField, reverseBitField}
 use Rattle.bits.specs.FieldList.{FieldCall, rotate, reverse, runCall, runCalls, netCount, oddReversals}
-use Rattle.bits.proofs.Booleans.{and-false}
-use Rattle.bits.proofs.LengthLaws.{fits-bits, fits-not}
-use Rattle.bits.proofs.LogicalLaws.{testbit-bitwise, isNegative-bitwise}
+use Rattle.bits.proofs.LengthLaws.{fits-not}
+use Rattle.bits.proofs.FieldLaws.{inField-ge}
+use Rattle.bits.proofs.FitsLaws.{is-true, fill-fits, bitwise-fits, same-above-fits}
 use Rattle.bits.proofs.ListTheorem.{ListLaw, list-theorem}
 use Rattle.fixnum.specs.declared.Answer.{Answer}
 use Rattle.fixnum.specs.Answers.{done, refuse}
@@ -31,37 +31,18 @@ use Rattle.fixnum.proofs.CallLaws.{width-bounds, both-left, both-right,
 use Rattle.fixnum.proofs.TableLaws.{from-to}
 use Rattle.fixnum.proofs.AnswerLaws.{reverse-answer, rotate-answer, rotate-no-fixnum, rotate-out-of-domain, one-answer, every-answer}
 
-is-true : {t : Bool} → T t → t ≡ true
-is-true {t = true} h = refl
-is-true {t = false} h = absurd h
-
-holds : {t : Bool} → t ≡ true → T t
-holds e = subst T (sym e) tt
-
 -- ---- fixnums stay fixnums
 
 module _ (w : ℕ) (p : 0 < w) where
-  bitwise-fits : (op : Bool → Bool → Bool) (x y : ℤ) → fits w x ≡ true → fits w y ≡ true → fits w (bitwise op x y) ≡ true
-  bitwise-fits op x y f g =
-      is-true (fits-bits w (bitwise op x y) p .1 (λ i h.
-      testbit-bitwise op x y i
-      ∙ cc (fits-bits w x p .0 (holds f) i h, fits-bits w y p .0 (holds g) i h)
-      ∙ sym (isNegative-bitwise op x y)))
-
   from-fits : (op : Bool → Bool → Bool) (x : ℤ) (ys : List ℤ) → fits w x ≡ true → allFixnums w ys ≡ true → fits w (bitwiseFrom op x ys) ≡ true
   unfolding bitwiseFrom allFixnums
   from-fits op x [] f g = f
   from-fits op x (y ∷ ys) f g =
-      from-fits op (bitwise op x y) ys (bitwise-fits op x y f (both-left (fits w y) (allFixnums w ys) g)) (both-right (fits w y) (allFixnums w ys) g)
+      from-fits op (bitwise op x y) ys (bitwise-fits w p op x y f (both-left (fits w y) (allFixnums w ys) g)) (both-right (fits w y) (allFixnums w ys) g)
 
-  fill-fits : (e : Bool) → fits w (fill e) ≡ true
-  unfolding fits fill
-  fill-fits true = lt-ltb 0 (2 ^ (w - 1)) (pow-pos (w - 1))
-  fill-fits false = lt-ltb 0 (2 ^ (w - 1)) (pow-pos (w - 1))
-
-  all-fits : (op : Bool → Bool → Bool) (e : Bool) (xs : List ℤ) → allFixnums w xs ≡ true → fits w (bitwiseAll op e xs) ≡ true
+  pub all-fits : (op : Bool → Bool → Bool) (e : Bool) (xs : List ℤ) → allFixnums w xs ≡ true → fits w (bitwiseAll op e xs) ≡ true
   unfolding bitwiseAll
-  all-fits op e xs g = from-fits op (fill e) xs (fill-fits e) g
+  all-fits op e xs g = from-fits op (fill e) xs (fill-fits w e) g
 
 -- ---- a list of calls is the list of bits
 
@@ -73,12 +54,9 @@ module _ (w : ℕ) (a : isWidth w ≡ true) (start end : ℕ) (h : start < end) 
   positive = let b = width-bounds w a in omega arith
 
   calls-fit : (done : FieldCall → Bool) (calls : List FieldCall) (x : ℤ) → fits w x ≡ true → fits w (runCalls done start end calls x) ≡ true
-  unfolding inField
   calls-fit done calls x f =
-      is-true (fits-bits w (runCalls done start end calls x) positive .1 (λ i l.
-      law done .outside calls x i (ap (λ (t : Bool). leb start i && t) (le-ltb i end (le-trans k l)) ∙ and-false (leb start i))
-      ∙ fits-bits w x positive .0 (holds f) i l
-      ∙ sym (law done .sign calls x)))
+      same-above-fits w positive x (runCalls done start end calls x) (λ i l. law done .outside calls x i (inField-ge start end i (le-trans k l)))
+      (law done .sign calls x) f
 
   -- one call: its answer by the rule, and what it hands on
   record Step (call : FieldCall) (x : ℤ) : Type 0 where

@@ -8,6 +8,8 @@ pub mod DivisionRows
 pub mod AnswerLaws
 pub mod Influence
 pub mod Demand3
+pub mod ResultLaws
+pub mod Closure
 pub mod Cases
 pub mod FieldCalls
 pub mod DispatchLaws

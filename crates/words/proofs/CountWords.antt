@@ -17,7 +17,7 @@ use Rattle.bits.specs.Count.{onesBelow, ones, bitCount, firstBitSet}
 use Rattle.bits.proofs.TestbitLaws.{testbit-half, mag-lt-bitLength}
 use Rattle.bits.proofs.CountLaws.{onesBelow-split, onesBelow-ext, ones-onesBelow, firstBitSet-unique}
 use Rattle.bits.proofs.LengthLaws.{bitLength-unique}
-use Rattle.words.proofs.LogicalWords.{digit-testbit}
+use Rattle.bits.proofs.Digitwise.{digit-testbit}
 
 -- ---- the ones
 
