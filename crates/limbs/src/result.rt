@@ -1,9 +1,13 @@
 // The description of a result: which operation, with which numbers. The operands are handed beside it.
-pub enum Operation {
-    Not,
+pub enum Logic {
     And,
     Ior,
     Xor,
+}
+
+pub enum Operation {
+    Not,
+    Logical(Logic),
     If,
     CopyBit { at: u64, bit: bool },
     BitField { start: u64, end: u64 },
