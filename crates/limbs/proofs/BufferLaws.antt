@@ -1,6 +1,6 @@
 -- Writing the limbs of an integer, one a turn, and laying them into the output buffer. Assumes nothing.
-use Prim.Native.Nat.{ℕ, zero, zero-le, suc, _+_, _*_, _-_, _^_, _≤_, _<_}
-use native.Mathlib.Nat.{le-antisymm}
+use Prim.Native.Nat.{ℕ, zero, suc, _+_, _*_, _-_, _^_, _≤_, _<_}
+use native.Mathlib.Nat.{le-refl, le-antisymm}
 use native.Mathlib.Numerals.{add-one}
 use native.Mathlib.Omega.{arith}
 use mathlib.Core.Path.{_≡_, refl, sym, ap, _∙_, subst}
@@ -12,6 +12,7 @@ use Rattle.bits.specs.Shift.{shiftRight}
 use Rattle.bits.specs.Division.{modℕ}
 use Rattle.bits.proofs.ShiftLaws.{shiftRight-zero, shiftRight-compose}
 use Rattle.limbs.specs.Value.{bitsFrom, limbsOf}
+use Rattle.limbs.specs.Buffer.{Begun, Continues}
 use Rattle.limbs.proofs.ValueLaws.{length-limbsOf}
 
 -- one limb more
@@ -39,23 +40,36 @@ write-step z p i h =
     ∙ ap (λ (l : List ℕ). l ++ drop (suc i) p) (sym (limbsOf-snoc i z))
     ∙ ap (λ (k : ℕ). limbsOf k z ++ drop k p) (sym (add-one i))
 
--- after i turns of n: the first i limbs of z, and then what was there before
-pub record Wrote (z : ℤ) (before part : List ℕ) (n i : ℕ) : Type 0 where
-  pub turns : i ≤ n
-  pub limbs : part ≡ limbsOf i z ++ drop i before
-  pub size : length part ≡ length before
-
-pub wrote-none : (z : ℤ) (p : List ℕ) (n : ℕ) → Wrote z p p n 0
+pub begun-none : (z : ℤ) (p : List ℕ) → Begun z p p 0
 unfolding limbsOf
-wrote-none z p n = record { turns = zero-le; limbs = refl; size = refl }
+begun-none z p = record { limbs = refl; size = refl }
 
-pub wrote-more : {z : ℤ} {before part : List ℕ} {n i : ℕ} (v : ℕ) → Wrote z before part n i → v ≡ bitsFrom z (32 * i) → i < n → n ≤ length before
-    → Wrote z before (set part i v) n (i + 1)
-wrote-more {z} {before} {part} {i = i} v w e h k = record {
-  turns = omega arith;
-  limbs = ap (λ (l : List ℕ). set l i v) (w .limbs) ∙ ap (set (limbsOf i z ++ drop i before) i) e ∙ write-step z before i (omega arith);
+pub begun-more : {z : ℤ} {before part : List ℕ} {i : ℕ} (v : ℕ) → Begun z before part i → v ≡ bitsFrom z (32 * i) → i < length part
+    → Begun z before (set part i v) (i + 1)
+begun-more {z} {before} {part} {i} v w e h = record {
+  limbs = ap (λ (l : List ℕ). set l i v) (w .limbs) ∙ ap (set (limbsOf i z ++ drop i before) i) e ∙ write-step z before i (omega (arith, w .size));
   size = length-set part i v ∙ w .size;
 }
 
-pub wrote-all : {z : ℤ} {before part : List ℕ} {n i : ℕ} → Wrote z before part n i → n ≤ i → part ≡ limbsOf n z ++ drop n before
-wrote-all {z} {before} w h = w .limbs ∙ ap (λ (k : ℕ). limbsOf k z ++ drop k before) (le-antisymm (w .turns) h)
+-- ---- a loop that writes, from one index to another: what is so after each turn
+
+pub record Turn (z : ℤ) (first part : List ℕ) (from to j : ℕ) : Type 0 where
+  pub low : from ≤ j
+  pub high : j ≤ to
+  pub size : length part ≡ length first
+  pub so-far : Continues z first part from j
+
+pub turn-none : (z : ℤ) (p : List ℕ) (from to : ℕ) → from ≤ to → Turn z p p from to from
+turn-none z p from to h = record { low = le-refl from; high = h; size = refl; so-far = λ before w. w }
+
+pub turn-more : {z : ℤ} {first part : List ℕ} {from to j : ℕ} (v : ℕ) → Turn z first part from to j → v ≡ bitsFrom z (32 * j) → j < to → to ≤ length first
+    → Turn z first (set part j v) from to (j + 1)
+turn-more {part} {j = j} v t e h k = record {
+  low = omega (arith, t .low);
+  high = omega arith;
+  size = length-set part j v ∙ t .size;
+  so-far = λ before w. begun-more v (t .so-far before w) e (omega (arith, t .size));
+}
+
+pub turn-all : {z : ℤ} {first part : List ℕ} {from to j : ℕ} → Turn z first part from to j → to ≤ j → Continues z first part from to
+turn-all {z} {first} {part} {from} t h = subst (λ (k : ℕ). Continues z first part from k) (le-antisymm (t .high) h) (t .so-far)

@@ -5,6 +5,8 @@
 --   written o out first        ==  the answer
 --   afterwards o out first     ==  the buffer afterwards: as it was, unless the call is done
 --   Writes o out first r out′  ==  r is the answer, and out′ the buffer afterwards
+--   Begun z before part i      ==  part holds the first i limbs of z, and from there on what was in `before`
+--   Continues z a b from to    ==  where a holds the first `from` limbs of z, b holds the first `to`, and the rest is as it was
 --   number o                   ==  the answer of a call that writes nothing
 -- The shortest limbs are written, or refusal 8 is given where they do not fit.
 use Prim.Native.Nat.{ℕ, _+_, _-_}
@@ -16,7 +18,7 @@ use lib.IntN.{ℤ, pos}
 use lib.ListN.{length, take, drop}
 use Rattle.limbs.specs.declared.Written.{Written}
 use Rattle.limbs.specs.declared.Number.{Number}
-use Rattle.limbs.specs.Value.{shortest}
+use Rattle.limbs.specs.Value.{limbsOf, shortest}
 
 pub data Outcome : Type 0 where
   refused : ℕ → Outcome
@@ -46,6 +48,13 @@ afterwards (integer z) out first = cond (fitsIn z out first) (laid out first (sh
 pub record Writes (o : Outcome) (out : List ℕ) (first : ℕ) (r : Written) (out′ : List ℕ) : Type 0 where
   pub answer : r ≡ written o out first
   pub buffer : out′ ≡ afterwards o out first
+
+pub record Begun (z : ℤ) (before part : List ℕ) (i : ℕ) : Type 0 where
+  pub limbs : part ≡ limbsOf i z ++ drop i before
+  pub size : length part ≡ length before
+
+abbrev pub Continues : ℤ → List ℕ → List ℕ → ℕ → ℕ → Type 0
+Continues z a b from to = (before : List ℕ) → Begun z before a from → Begun z before b to
 
 unfoldable pub number : Outcome → Number
 number (refused k) = record { refusal = k; value = pos 0 }

@@ -1,12 +1,12 @@
 // The logical operations, limb by limb.
 ghost use mathlib.Core.Path.{_≡_};
-ghost use mathlib.Core.List.{_++_};
 ghost use Prim.Native.Nat.{ℕ, _*_, _<_, _≤_};
 ghost use lib.IntN.{pos};
-ghost use lib.ListN.{length, drop};
+ghost use lib.ListN.{length};
 ghost use Rattle.bits.specs.Testbit.{testbit};
 ghost use Rattle.bits.specs.Logical.{bitwiseNot, bitwise, bitwiseIf};
-ghost use Rattle.limbs.specs.Value.{value, bitsFrom, limbsOf};
+ghost use Rattle.limbs.specs.Value.{value, bitsFrom};
+ghost use Rattle.limbs.specs.Buffer.{Continues};
 ghost use Rattle.limbs.specs.Results.{logicOf};
 use super::limb::limb;
 use super::result::Logic;
@@ -46,14 +46,67 @@ pub fn if_limb(x: &[u32], y: &[u32], z: &[u32], j: usize) -> u32
     (m & limb(y, j)) | (!m & limb(z, j))
 }
 
-pub fn write_not(x: &[u32], n: usize, part: &mut [u32])
+// Each writer puts the limbs from one index up to, but not at, another into a part of the output buffer.
+pub fn write_not(x: &[u32], from: usize, to: usize, part: &mut [u32])
     requires { ⌜ 0 < length (now x) ⌝ }
-    requires { ⌜ n ≤ length (now part) ⌝ }
-    ensures { λ r. ⌜ now (part .exit) ≡ limbsOf n (bitwiseNot (value (now (x .entry)))) ++ drop n (now (part .entry)) ⌝ }
+    requires { ⌜ (from ≤ to) × (to ≤ length (now part)) ⌝ }
+    ensures { λ r. ⌜ Continues (bitwiseNot (value (now (x .entry)))) (now (part .entry)) (now (part .exit)) from to ⌝ }
+{
+    let mut j = from;
+    while j < to {
+        part[j] = not_limb(x, j);
+        j += 1;
+    }
+}
+
+// Limbs that both operands have.
+fn write_common(by: Logic, x: &[u32], y: &[u32], to: usize, part: &mut [u32])
+    requires { ⌜ (to ≤ length (now x)) × (to ≤ length (now y)) × (to ≤ length (now part)) ⌝ }
+    ensures { λ r. ⌜ Continues (bitwise (logicOf by) (value (now (x .entry))) (value (now (y .entry)))) (now (part .entry)) (now (part .exit)) 0 to ⌝ }
 {
     let mut j = 0;
-    while j < n {
-        part[j] = not_limb(x, j);
+    while j < to {
+        part[j] = combine(by, x[j], y[j]);
+        j += 1;
+    }
+}
+
+fn write_padded(by: Logic, x: &[u32], y: &[u32], from: usize, to: usize, part: &mut [u32])
+    requires { ⌜ (0 < length (now x)) × (0 < length (now y)) ⌝ }
+    requires { ⌜ (from ≤ to) × (to ≤ length (now part)) ⌝ }
+    ensures { λ r. ⌜ Continues (bitwise (logicOf by) (value (now (x .entry))) (value (now (y .entry)))) (now (part .entry)) (now (part .exit)) from to ⌝ }
+{
+    let mut j = from;
+    while j < to {
+        part[j] = logical_limb(by, x, y, j);
+        j += 1;
+    }
+}
+
+fn least(a: usize, b: usize) -> usize
+    ensures { λ r. ⌜ (r ≤ a) × (r ≤ b) ⌝ }
+{
+    if a < b { a } else { b }
+}
+
+pub fn write_logical(by: Logic, x: &[u32], y: &[u32], to: usize, part: &mut [u32])
+    requires { ⌜ (0 < length (now x)) × (0 < length (now y)) ⌝ }
+    requires { ⌜ to ≤ length (now part) ⌝ }
+    ensures { λ r. ⌜ Continues (bitwise (logicOf by) (value (now (x .entry))) (value (now (y .entry)))) (now (part .entry)) (now (part .exit)) 0 to ⌝ }
+{
+    let common = least(to, least(x.len(), y.len()));
+    write_common(by, x, y, common, part);
+    write_padded(by, x, y, common, to, part);
+}
+
+pub fn write_if(x: &[u32], y: &[u32], z: &[u32], from: usize, to: usize, part: &mut [u32])
+    requires { ⌜ (0 < length (now x)) × (0 < length (now y)) × (0 < length (now z)) ⌝ }
+    requires { ⌜ (from ≤ to) × (to ≤ length (now part)) ⌝ }
+    ensures { λ r. ⌜ Continues (bitwiseIf (value (now (x .entry))) (value (now (y .entry))) (value (now (z .entry)))) (now (part .entry)) (now (part .exit)) from to ⌝ }
+{
+    let mut j = from;
+    while j < to {
+        part[j] = if_limb(x, y, z, j);
         j += 1;
     }
 }

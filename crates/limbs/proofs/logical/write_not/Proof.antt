@@ -1,23 +1,23 @@
--- `limbs::logical::write_not` meets its contract. The invariant: the first j limbs are written, and the rest is as it was. Assumes nothing.
+-- `limbs::logical::write_not` meets its contract, turn by turn. Assumes nothing.
 use Prim.Native.Nat.{_-_}
 use native.Mathlib.Omega.{arith}
 use Rattle.bits.specs.Logical.{bitwiseNot}
 use Rattle.limbs.specs.Value.{value}
-use Rattle.limbs.proofs.BufferLaws.{Wrote, wrote-none, wrote-more, wrote-all}
+use Rattle.limbs.proofs.BufferLaws.{Turn, turn-none, turn-more, turn-all}
 use Rattle.limbs.proofs.logical.write_not.Statement.{statement}
 use Rattle.limbs.proofs.logical.write_not.Tie as tie
 
 abbrev Inv-loop : tie.InvT-loop
-Inv-loop x n part₀ j₀ part j = Wrote (bitwiseNot (value x)) part₀ part n j
+Inv-loop x from to part₀ j₀ part j = Turn (bitwiseNot (value x)) part₀ part from to j
 
 abbrev μ-loop : tie.MeasureT-loop
-μ-loop x n part₀ j₀ part j = n - j
+μ-loop x from to part₀ j₀ part j = to - j
 
 loop-holds : tie.Need-loop-holds Inv-loop μ-loop
-loop-holds c = wrote-none _ _ _
+loop-holds c = turn-none _ _ _ _ (omega arith)
 
 not-limb-requires : tie.Need-not-limb-requires Inv-loop μ-loop
-not-limb-requires c κs = c .before .before .before .before .pre .0
+not-limb-requires c κs = omega arith
 
 mul-part : tie.Need-mul-part Inv-loop μ-loop
 mul-part c = omega arith
@@ -32,13 +32,13 @@ loop-less : tie.Need-loop-less Inv-loop μ-loop
 loop-less c = omega arith
 
 loop-again : tie.Need-loop-again Inv-loop μ-loop
-loop-again c = wrote-more _ (c .before .before .loop .inv) (c .not-limb .ensures) (c .before .loop-test .taken) (c .before .before .before .before .before .pre .1)
+loop-again c = turn-more _ (c .before .before .loop .inv) (c .not-limb .ensures) (c .before .loop-test .taken) (omega arith)
 
 same-length : tie.Need-same-length Inv-loop μ-loop
 same-length c = c .before .loop .inv .size
 
 returns : tie.Need-returns Inv-loop μ-loop
-returns c = wrote-all (c .before .loop .inv) (c .loop-test .left)
+returns c = turn-all (c .before .loop .inv) (c .loop-test .left)
 
 pub write-not-spec : {M : Type 1} → statement M
 write-not-spec =

@@ -1,0 +1,88 @@
+-- `limbs::logical::write_common` meets its contract, turn by turn. Assumes nothing.
+use Prim.Native.Nat.{ℕ, _-_, _*_}
+use native.Mathlib.Omega.{arith}
+use mathlib.Core.Path.{_≡_, ap₂, _∙_}
+use lib.IntN.{pos}
+use borrow.Author.Needs.{needs}
+use Rattle.bits.specs.Testbit.{testbit}
+use Rattle.bits.specs.Logical.{bitwise}
+use Rattle.limbs.specs.Value.{value, bitsFrom}
+use Rattle.limbs.specs.Results.{logicOf}
+use Rattle.limbs.proofs.LimbLaws.{limb-value}
+use Rattle.limbs.proofs.LogicalLaws.{bitsFrom-bitwise}
+use Rattle.limbs.proofs.BufferLaws.{Turn, turn-none, turn-more, turn-all}
+use Rattle.limbs.proofs.logical.write_common.Statement.{statement}
+use Rattle.limbs.proofs.logical.write_common.Tie as tie
+
+abbrev Inv-loop : tie.InvT-loop
+Inv-loop by x y to part₀ j₀ part j = Turn (bitwise (logicOf by) (value x) (value y)) part₀ part 0 to j
+
+abbrev μ-loop : tie.MeasureT-loop
+μ-loop by x y to part₀ j₀ part j = to - j
+
+loop-holds : tie.Need-loop-holds Inv-loop μ-loop
+loop-holds c = turn-none _ _ _ _ (omega arith)
+
+mul-combine : tie.Need-mul-combine Inv-loop μ-loop
+mul-combine c = omega arith
+
+shared-slice-read-combine : tie.Need-shared-slice-read-combine Inv-loop μ-loop
+shared-slice-read-combine c = omega arith
+
+mul-combine-2 : tie.Need-mul-combine-2 Inv-loop μ-loop
+mul-combine-2 c = omega arith
+
+shared-slice-read-combine-2 : tie.Need-shared-slice-read-combine-2 Inv-loop μ-loop
+shared-slice-read-combine-2 c = omega arith
+
+combine-requires : tie.Need-combine-requires Inv-loop μ-loop
+combine-requires c κs = search needs
+
+mul-part : tie.Need-mul-part Inv-loop μ-loop
+mul-part c = omega arith
+
+slice-write-part : tie.Need-slice-write-part Inv-loop μ-loop
+slice-write-part c = omega arith
+
+add-j : tie.Need-add-j Inv-loop μ-loop
+add-j c = omega arith
+
+loop-less : tie.Need-loop-less Inv-loop μ-loop
+loop-less c = omega arith
+
+loop-again : tie.Need-loop-again Inv-loop μ-loop
+loop-again c =
+    let a = c .before .before .before .before .before .before .before .before in
+    let j = c .before .before .before .before .loop .j in
+    let x = limb-value (a .args .x .now) j (λ i. c .before .before .shared-slice-known3 .given i .fits) (omega arith) in
+    let y = limb-value (a .args .y .now) j (λ i. c .before .shared-slice-known4 .given i .fits) (omega arith) in
+    turn-more _ (c .before .before .before .before .loop .inv)
+    (bitsFrom-bitwise (logicOf (a .args .by)) (value (a .args .x .now)) (value (a .args .y .now)) (32 * j) (c .combine .result) (c .combine .ok) (λ t.
+    c .combine .ensures t ∙ ap₂ (λ (m n : ℕ). logicOf (a .args .by) (testbit (pos m) t) (testbit (pos n) t)) x y))
+    (c .before .before .before .loop-test .taken) (omega arith)
+
+same-length : tie.Need-same-length Inv-loop μ-loop
+same-length c = c .before .loop .inv .size
+
+returns : tie.Need-returns Inv-loop μ-loop
+returns c = turn-all (c .before .loop .inv) (c .loop-test .left)
+
+pub write-common-spec : {M : Type 1} → statement M
+write-common-spec =
+    tie.close
+    (tie.spec
+    Inv-loop
+    μ-loop
+    loop-holds
+    mul-combine
+    shared-slice-read-combine
+    mul-combine-2
+    shared-slice-read-combine-2
+    combine-requires
+    mul-part
+    slice-write-part
+    add-j
+    loop-less
+    loop-again
+    same-length
+    returns)
