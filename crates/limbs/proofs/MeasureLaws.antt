@@ -11,11 +11,8 @@ use Rattle.bits.proofs.TestbitLaws.{testbit-above, testbit-fill}
 use Rattle.bits.proofs.ValueLaws.{testbit-mask}
 use Rattle.bits.proofs.LengthLaws.{bitLength-least-bits}
 use Rattle.limbs.specs.Value.{bitsFrom, limbCount}
+use Rattle.limbs.specs.Results.{continued}
 use Rattle.limbs.proofs.LimbLaws.{bitsFrom-lt, testbit-bitsFrom, bitsFrom-above, top-bit}
-
--- the limb that continues a limb n
-abbrev pub continued : ℕ → ℕ
-continued n = cond (not (ltb n 0x80000000)) 0xFFFFFFFF 0
 
 -- each bit of a continuing limb is the top bit of the limb below it
 ones-bit : (s : Bool) (t : ℕ) → t < 32 → testbit (pos (cond s 0xFFFFFFFF 0)) t ≡ s
@@ -30,6 +27,7 @@ module _ (z : ℤ) (k : ℕ) where
 
   -- where the limb above continues limb k, its bits are all that bit
   above : bitsFrom z (32 * (k + 1)) ≡ continued (bitsFrom z (32 * k)) → (t : ℕ) → t < 32 → testbit z (32 * (k + 1) + t) ≡ testbit z (32 * k + 31)
+  unfolding continued
   above e t l =
       sym (testbit-bitsFrom z (32 * (k + 1)) t l)
       ∙ ap (λ (n : ℕ). testbit (pos n) t) e
@@ -59,6 +57,7 @@ module _ (z : ℤ) (k : ℕ) (h : bitLength z < 32 * (k + 2)) where
 
   -- a length that is shorter by a limb has a top limb that continues the one below it
   continues : bitLength z < 32 * (k + 1) → bitsFrom z (32 * (k + 1)) ≡ continued (bitsFrom z (32 * k))
+  unfolding continued
   continues l =
       bitsFrom-above z (32 * (k + 1)) (omega arith)
       ∙ ap (λ (s : Bool). cond s 0xFFFFFFFF 0) (sym (testbit-above z (32 * k + 31) (omega arith)) ∙ top z k)
@@ -76,3 +75,23 @@ module _ (z : ℤ) (k : ℕ) (h : bitLength z < 32 * (k + 2)) where
 pub settled-one : (z : ℤ) → bitLength z < 32 * 1 → limbCount z ≡ 1
 unfolding limbCount
 settled-one z h = omega arith
+
+-- the same, where n limbs are enough
+module _ (z : ℤ) (n : ℕ) (p : 1 < n) (h : bitLength z < 32 * n) where
+  two : n - 2 + 2 ≡ n
+  two = omega arith
+
+  one : n - 2 + 1 ≡ n - 1
+  one = omega arith
+
+  enough : bitLength z < 32 * (n - 2 + 2)
+  enough = omega (arith, two)
+
+  top-limb : (m : ℕ) → bitsFrom z (32 * (n - 1)) ≡ m → bitsFrom z (32 * (n - 2 + 1)) ≡ m
+  top-limb m e = ap (λ (k : ℕ). bitsFrom z (32 * k)) one ∙ e
+
+  pub shorter-by-one : bitsFrom z (32 * (n - 1)) ≡ continued (bitsFrom z (32 * (n - 2))) → bitLength z < 32 * (n - 1)
+  shorter-by-one e = omega (arith, one, shorter z (n - 2) enough (top-limb _ e))
+
+  pub settled-at : (bitsFrom z (32 * (n - 1)) ≡ continued (bitsFrom z (32 * (n - 2))) → ⊥) → n ≡ limbCount z
+  settled-at e = sym (settled z (n - 2) enough (λ q. e (ap (λ (k : ℕ). bitsFrom z (32 * k)) (sym one) ∙ q)) ∙ two)

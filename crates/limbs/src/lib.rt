@@ -1,7 +1,8 @@
 // The R6RS bitwise operations on integers of up to 1,024 limbs of 32 bits, least significant first, in two's complement.
-pub mod limb;
-pub mod logical;
-pub mod result;
+mod limb;
+mod logical;
+mod measure;
+mod result;
 
 // What a call answers that writes an integer: a refusal number, 0 for done, and how many limbs it has written.
 pub struct Written {

@@ -1,4 +1,5 @@
-// The description of a result: which operation, with which numbers. The operands are handed beside it.
+// The description of a result: which operation, with which numbers. The operands are handed beside it, and an operation that
+// takes fewer than three gets its first one again.
 pub enum Logic {
     And,
     Ior,
@@ -9,11 +10,4 @@ pub enum Operation {
     Not,
     Logical(Logic),
     If,
-    CopyBit { at: u64, bit: bool },
-    BitField { start: u64, end: u64 },
-    CopyBitField { start: u64, end: u64 },
-    ShiftLeft { by: u64 },
-    ShiftRight { by: u64 },
-    Rotate { start: u64, end: u64, by: u64 },
-    Reverse { start: u64, end: u64 },
 }

@@ -1,0 +1,57 @@
+// The limbs of a described result at any index, and how many it needs.
+ghost use mathlib.Core.Path.{_≡_};
+ghost use Prim.Native.Nat.{_*_, _<_, _≤_};
+ghost use lib.Dec.{eqb};
+ghost use lib.ListN.{length};
+ghost use Rattle.bits.specs.Testbit.{bitLength};
+ghost use Rattle.limbs.specs.Value.{value, bitsFrom, limbCount};
+ghost use Rattle.limbs.specs.Results.{meaning, continued};
+use super::logical::if_limb;
+use super::logical::logical_limb;
+use super::logical::not_limb;
+use super::result::Operation;
+
+fn limb_of(operation: Operation, x: &[u32], y: &[u32], z: &[u32], j: usize) -> u32
+    requires { ⌜ 0 < length (now x) ⌝ }
+    requires { ⌜ 0 < length (now y) ⌝ }
+    requires { ⌜ 0 < length (now z) ⌝ }
+    ensures { λ r. ⌜ r ≡ bitsFrom (meaning operation (value (now (x .entry))) (value (now (y .entry))) (value (now (z .entry)))) (32 * j) ⌝ }
+{
+    match operation {
+        Operation::Not => not_limb(x, j),
+        Operation::Logical(by) => logical_limb(by, x, y, j),
+        Operation::If => if_limb(x, y, z, j),
+    }
+}
+
+// Whether a limb only continues the top bit of the limb below it.
+fn is_padding(low: u32, high: u32) -> bool
+    ensures { λ r. ⌜ r ≡ eqb high (continued low) ⌝ }
+{
+    if low < 0x8000_0000 {
+        high == 0
+    } else {
+        high == 0xFFFF_FFFF
+    }
+}
+
+// The length of the result's shortest form, from a number of limbs that is enough downwards.
+pub fn measure(operation: Operation, x: &[u32], y: &[u32], z: &[u32], enough: usize) -> usize
+    requires { ⌜ 0 < length (now x) ⌝ }
+    requires { ⌜ 0 < length (now y) ⌝ }
+    requires { ⌜ 0 < length (now z) ⌝ }
+    requires { ⌜ 0 < enough ⌝ }
+    requires { ⌜ bitLength (meaning operation (value (now x)) (value (now y)) (value (now z))) < 32 * enough ⌝ }
+    ensures { λ r. ⌜ r ≡ limbCount (meaning operation (value (now (x .entry))) (value (now (y .entry))) (value (now (z .entry)))) ⌝ }
+{
+    let mut n = enough;
+    while 1 < n {
+        let low = limb_of(operation, x, y, z, n - 2);
+        let high = limb_of(operation, x, y, z, n - 1);
+        if !is_padding(low, high) {
+            return n;
+        }
+        n -= 1;
+    }
+    n
+}
