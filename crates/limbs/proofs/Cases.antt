@@ -12,7 +12,7 @@ use Rattle.bits.specs.Division.{modℕ}
 use Rattle.bits.specs.Field.{inField, setField, permuteField, rotateIndex, reverseIndex, rotateBitField, reverseBitField}
 use Rattle.bits.specs.Count.{onesBelow, ones, bitCount, firstTrue, firstBitSet}
 use Rattle.limbs.specs.Value.{onTop, value, limbsOf, limbCount, shortest}
-use Rattle.limbs.specs.Buffer.{Outcome, refused, integer, unless, room, laid, fitsIn, written, afterwards, number}
+use Rattle.limbs.specs.Buffer.{Outcome, refused, integer, unless, room, laid, fitsIn, refusal, written, afterwards, number}
 use Rattle.limbs.specs.Operations.{
   mostLimbs,
   isOperand,
@@ -74,5 +74,5 @@ pub cases-refusals :
     × (afterwards (notOutcome (0 ∷ [])) (7 ∷ 7 ∷ []) 1 ≡ 7 ∷ 0xFFFFFFFF ∷ [])
 unfolding odd testbit halvings bitLength consBit ofBits isNegative fill bitwiseNot floorDiv shiftRight modℕ inField setField
     permuteField rotateIndex rotateBitField onTop value limbsOf limbCount shortest
-    unless room laid fitsIn written afterwards mostLimbs isOperand operand within field notOutcome rotateOutcome
+    unless room laid fitsIn refusal written afterwards mostLimbs isOperand operand within field notOutcome rotateOutcome
 cases-refusals = (refl, refl, refl, refl, refl, refl, refl, refl, refl, refl)

@@ -2,6 +2,7 @@
 --   Outcome                    ==  a refusal number, or an integer
 --   room out first             ==  how many limbs the buffer has from the first limb on
 --   laid out first xs          ==  the buffer with the limbs xs from the first limb on, and all others as they were
+--   refusal k                  ==  the answer of a refused call
 --   written o out first        ==  the answer
 --   afterwards o out first     ==  the buffer afterwards: as it was, unless the call is done
 --   Writes o out first r out′  ==  r is the answer, and out′ the buffer afterwards
@@ -36,10 +37,13 @@ laid out first xs = take first out ++ (xs ++ drop (first + length xs) out)
 unfoldable pub fitsIn : ℤ → List ℕ → ℕ → Bool
 fitsIn z out first = leb (length (shortest z)) (room out first)
 
+unfoldable pub refusal : ℕ → Written
+refusal k = record { refusal = k; length = 0 }
+
 unfoldable pub written : Outcome → List ℕ → ℕ → Written
-written (refused k) out first = record { refusal = k; length = 0 }
+written (refused k) out first = refusal k
 written (integer z) out first =
-    cond (fitsIn z out first) (record { refusal = 0; length = length (shortest z) }) (record { refusal = 8; length = 0 })
+    cond (fitsIn z out first) (record { refusal = 0; length = length (shortest z) }) (refusal 8)
 
 unfoldable pub afterwards : Outcome → List ℕ → ℕ → List ℕ
 afterwards (refused k) out first = out

@@ -3,6 +3,7 @@ mod limb;
 mod logical;
 mod measure;
 mod result;
+mod run;
 
 // What a call answers that writes an integer: a refusal number, 0 for done, and how many limbs it has written.
 pub struct Written {
