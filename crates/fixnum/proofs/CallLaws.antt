@@ -83,6 +83,9 @@ fits-word w x a h = lt-ltb (mag x) (2 ^ 63) (word-fixnum w x a h .sfits)
 pub done-cong : {a a′ b b′ : ℤ} → a ≡ a′ → b ≡ b′ → done a b ≡ done a′ b′
 done-cong p q = cc
 
+pub sized-cong : {a a′ b b′ : ℤ} (k w : ℕ) → a ≡ a′ → b ≡ b′ → sized k w (a, b) ≡ sized k w (a′, b′)
+sized-cong k w p q = cc
+
 -- the size test, passed and failed
 pub sized-fits : (k w : ℕ) (a b : ℤ) → fits w a ≡ true → sized k w (a, b) ≡ done a b
 unfolding sized unless

@@ -9,6 +9,7 @@ pub mod AnswerLaws
 pub mod Influence
 pub mod Demand3
 pub mod Cases
+pub mod PlaceLaws
 pub mod FieldCalls
 pub mod DispatchLaws
 pub mod ArithmeticLaws

@@ -1,7 +1,7 @@
 -- `fixnum::counts::counts` meets its contract. Assumes nothing.
 use borrow.Author.Needs.{needs}
 use native.Mathlib.Omega.{arith}
-use mathlib.Core.Path.{_≡_, sym, ap, _∙_}
+use mathlib.Core.Path.{_≡_, ap, _∙_}
 use mathlib.Core.List.{List, []}
 use Prim.Native.Nat.{ℕ}
 use lib.IntN.{ℤ, pos}
@@ -11,11 +11,11 @@ use Rattle.bits.specs.Testbit.{bitLength}
 use Rattle.bits.specs.Count.{bitCount, firstBitSet}
 use Rattle.words.proofs.WordLaws.{back}
 use Rattle.fixnum.specs.declared.Answer.{Answer}
-use Rattle.fixnum.specs.Answers.{done}
+use Rattle.fixnum.specs.Answers.{done, unless}
 use Rattle.fixnum.specs.Domains.{arg}
 use Rattle.fixnum.specs.Operations.{one}
 use Rattle.fixnum.specs.Table.{rows, row, rowOf}
-use Rattle.fixnum.specs.Calls.{Accepted, counted, outcome}
+use Rattle.fixnum.specs.Calls.{Accepted, counted, sized, outcome}
 use Rattle.fixnum.proofs.MeaningLaws.{one-outcome}
 use Rattle.fixnum.proofs.counts.counts.Statement.{statement}
 use Rattle.fixnum.proofs.counts.counts.Tie as tie
@@ -24,7 +24,8 @@ use Rattle.fixnum.proofs.counts.counts.Tie as tie
 answer : (f : ℤ → ℤ) {w code n : ℕ} {xs : List ℤ} {r : Answer} {y : ℤ} → r ≡ done (toZ w64 (ofZ w64 y)) (pos 0)
     → y ≡ f (toZ w64 (ofZ w64 (arg xs 0))) → SFits w64 y → SFits w64 (arg xs 0) → rowOf code ≡ row 1 1 [] 0 (one f) → Accepted w code xs n
     → r ≡ outcome w code (counted xs n)
-answer f d e h k o a = d ∙ ap (λ (z : ℤ). done z (pos 0)) (back h ∙ e ∙ ap f (back k)) ∙ sym (one-outcome f o a)
+unfolding sized unless one
+answer f d e h k o a = d ∙ ap (λ (z : ℤ). done z (pos 0)) (back h ∙ e ∙ ap f (back k)) ∙ one-outcome (λ v x. (f x, pos 0)) o a
 
 array-copy-out-x : tie.Need-array-copy-out-x
 array-copy-out-x c = search needs
