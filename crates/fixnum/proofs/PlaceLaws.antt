@@ -86,11 +86,11 @@ module _ {w code : ℕ} {xs : List ℤ} {n : ℕ} (a : Accepted w code xs n) whe
   unfolding domainsOf
   position-lt e = omega (arith, bounds, within-pos 0 (w - 1) (arg xs 1) (inside e (bit-domains w xs n (enough e))) .2)
 
-  pub distance-lt : rowOf code .domains ≡ domainsOf Shift → natAbs (arg xs 1) < 64
+  distance-lt : rowOf code .domains ≡ domainsOf Shift → natAbs (arg xs 1) < 64
   unfolding domainsOf
   distance-lt e = omega (arith, bounds, within-pos 0 (w - 1) (arg xs 1) (inside e (shift-domains w xs n (enough e))) .2)
 
-  pub signed-distance-lt : rowOf code .domains ≡ domainsOf SignedShift → natAbs (arg xs 1) < 64
+  signed-distance-lt : rowOf code .domains ≡ domainsOf SignedShift → natAbs (arg xs 1) < 64
   unfolding domainsOf
   signed-distance-lt e = omega (arith, bounds, within-both (w - 1) (arg xs 1) (inside e (signed-shift-domains w xs n (enough e))))
 
@@ -119,7 +119,7 @@ module _ {w code : ℕ} {xs : List ℤ} {n : ℕ} (a : Accepted w code xs n) whe
       (rw (natural-pos (arg xs 1) (f .start), natural-pos (arg xs 2) (f .end)) (both-right field count h)) in
       (f, c .0, c .1)
 
--- the operations on a bit, and those on a field
+-- the operations on a bit, those on a field, and the shifts
 pub position-call : {w code : ℕ} {xs : List ℤ} {n : ℕ} → (33 ≤ code) × (code ≤ 34) → Accepted w code xs n → natAbs (arg xs 1) < w
 unfolding rows rowOf domainsOf
 position-call {w} {code} {xs} {n} h a =
@@ -131,3 +131,8 @@ field-call {w} {code} {xs} {n} h a =
     from-to (λ c. (36 < c → 40 ≤ c) → Accepted w c xs n → FieldPlaces xs) 35 7
     (λ k b. plain-field b refl, (λ k b. plain-field b refl, (λ k b. absurd (omega (arith, k (lit< tt))), (λ k b. absurd (omega (arith, k (lit< tt))), (λ k b. absurd (omega (arith, k (lit< tt))), (λ k b. rotation-places b refl .0, (λ k b. plain-field b refl, tt)))))))
     code (h .0) (omega arith) (h .2) a
+
+pub shift-call : {w code : ℕ} {xs : List ℤ} {n : ℕ} → (37 ≤ code) × (code ≤ 39) → Accepted w code xs n → natAbs (arg xs 1) < 64
+unfolding rows rowOf domainsOf
+shift-call {w} {code} {xs} {n} h a =
+    from-to (λ c. Accepted w c xs n → natAbs (arg xs 1) < 64) 37 3 (λ b. signed-distance-lt b refl, (λ b. distance-lt b refl, (λ b. distance-lt b refl, tt))) code (h .0) (omega arith) a
