@@ -25,7 +25,7 @@ use Rattle.fixnum.specs.Table.{row, rows, isCode, rowOf}
 use Rattle.fixnum.specs.Calls.{Accepted, counted, isCount, allFixnums, sized, outcome, fixnumAnswer}
 use Rattle.bits.specs.FieldList.{rotate, reverse}
 use Rattle.fixnum.specs.Lists.{ask, isDone}
-use Rattle.fixnum.proofs.CallLaws.{width-bounds, both-left, both-right}
+use Rattle.fixnum.proofs.PlaceLaws.{natural-pos, count-pos}
 
 -- a stage passed, and one that refuses
 pub passed : {t : Bool} (k : ℕ) (a : Answer) → t ≡ true → unless t k a ≡ a
@@ -47,12 +47,6 @@ accepted w code xs n k a =
 lt-two-pow : (k : ℕ) → k < 2 ^ k
 lt-two-pow zero = lit< tt
 lt-two-pow (suc k) = omega (arith, pow-suc 2 k, lt-two-pow k)
-
--- a count from 0 to size - 1 is a natural number below the size
-count-pos : (size : ℕ) (c : ℤ) → isDone size (rotate c) ≡ true → (n : ℕ) × (c ≡ pos n) × (n < size)
-unfolding isDone
-count-pos size (pos n) h = (n, refl, ltb-true n size (both-right (leb 0 n) (ltb n size) h))
-count-pos size (negsuc n) h = let z : _≡_ {A = ℕ} 0 1 = cc in absurd (omega arith)
 
 module _ (w : ℕ) (a : isWidth w ≡ true) where
   -- a position is a fixnum
@@ -82,9 +76,10 @@ module _ (w : ℕ) (a : isWidth w ≡ true) where
     -- code 40, by its count
     module _ (c : ℤ) where
       count-fits : isDone (end - start) (rotate c) ≡ true → fits w c ≡ true
+      unfolding isDone
       count-fits d =
           let n = count-pos (end - start) c d in
-          subst (λ (z : ℤ). fits w z ≡ true) (sym (n .1)) (position-fits (n .0) (omega (arith, n .2)))
+          subst (λ (z : ℤ). fits w z ≡ true) (natural-pos c (n .0)) (position-fits (natAbs c) (omega (arith, n .1)))
 
       pub rotate-answer : isDone (end - start) (rotate c) ≡ true
           → ask w 40 (x ∷ pos start ∷ pos end ∷ c ∷ []) ≡ done (rotateBitField x start end c) (pos 0)

@@ -39,11 +39,10 @@ within-both m (pos n) h = leb-true n m (both-right (leZ (negℤ (pos m)) (pos n)
 within-both zero (negsuc n) h = let z : _≡_ {A = ℕ} 0 1 = cc in absurd (omega arith)
 within-both (suc m) (negsuc n) h = let l = leb-true n m (both-left (leb n m) true h) in omega arith
 
-count-pos : (s e : ℕ) (c : ℤ) → s ≤ e → leZ (pos 0) c && ltZ c (pos e -ℤ pos s) ≡ true → (isNegative c ≡ false) × (natAbs c < e - s)
+pub count-pos : (size : ℕ) (c : ℤ) → leZ (pos 0) c && ltZ c (pos size) ≡ true → (isNegative c ≡ false) × (natAbs c < size)
 unfolding isNegative
-count-pos s e (pos n) l h =
-    (refl, ltb-true n (e - s) (sym (ap (ltZ (pos n)) (pos-sub-ge e s l)) ∙ both-right (leZ (pos 0) (pos n)) (ltZ (pos n) (pos e -ℤ pos s)) h))
-count-pos s e (negsuc n) l h = let z : _≡_ {A = ℕ} 0 1 = cc in absurd (omega arith)
+count-pos size (pos n) h = (refl, ltb-true n size (both-right (leb 0 n) (ltb n size) h))
+count-pos size (negsuc n) h = let z : _≡_ {A = ℕ} 0 1 = cc in absurd (omega arith)
 
 -- ---- the places of a call
 
@@ -115,8 +114,8 @@ module _ {w code : ℕ} {xs : List ℤ} {n : ℕ} (a : Accepted w code xs n) whe
       let count = leZ (pos 0) (arg xs 3) && ltZ (arg xs 3) (arg xs 2 -ℤ arg xs 1) in
       let f = field-places w xs bounds (both-left field count h) in
       let c =
-      count-pos (natAbs (arg xs 1)) (natAbs (arg xs 2)) (arg xs 3) (f .ordered)
-      (rw (natural-pos (arg xs 1) (f .start), natural-pos (arg xs 2) (f .end)) (both-right field count h)) in
+      count-pos (natAbs (arg xs 2) - natAbs (arg xs 1)) (arg xs 3)
+      (rw (sym (pos-sub-ge (natAbs (arg xs 2)) (natAbs (arg xs 1)) (f .ordered)), natural-pos (arg xs 1) (f .start), natural-pos (arg xs 2) (f .end)) (both-right field count h)) in
       (f, c .0, c .1)
 
 -- the operations on a bit, those on a field, and the shifts
