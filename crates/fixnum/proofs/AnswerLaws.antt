@@ -1,20 +1,16 @@
 -- The stages of an answer, passed one by one; and the answers to the codes that demand 3 speaks of. Assumes nothing.
-use Prim.Native.Nat.{ℕ, zero, zero-le, suc, _+_, _-_, _≤_, _<_, _^_}
+use Prim.Native.Nat.{ℕ, zero, zero-le, suc, _-_, _≤_, _<_, _^_}
 use native.Mathlib.Nat.{le-trans, lt-of-le-of-lt, pow-suc}
 use native.Mathlib.Omega.{arith}
-use mathlib.Core.Path.{_≡_, refl, sym, ap, _∙_, subst}
-use mathlib.Core.Bool.{Bool, true, false, cond, _&&_, _||_, xor}
+use mathlib.Core.Path.{_≡_, refl, ap, _∙_, subst}
+use mathlib.Core.Bool.{Bool, true, false, cond, _&&_}
 use mathlib.Core.List.{List, [], _∷_}
-use lib.Dec.{leb, ltb, eqb, lit<}
-use lib.IntN.{ℤ, pos, negsuc, natAbs, _-ℤ_}
+use lib.Dec.{lit<}
+use lib.IntN.{ℤ, pos, natAbs}
 use lib.ListN.{length}
 use lib.Seq.{take-length}
-use lib.Pow.{pow-pos}
-use lib.Signed.{leZ, ltZ}
-use borrow.Author.Tests.{le-leb, lt-ltb, leb-true, ltb-true}
-use Rattle.bits.specs.Testbit.{isNegative, testbit, fits}
-use Rattle.bits.specs.Logical.{bitwiseNot, bitwiseAnds, bitwiseIors, bitwiseXors}
-use Rattle.bits.specs.Count.{bitCount}
+use borrow.Author.Tests.{le-leb, lt-ltb}
+use Rattle.bits.specs.Testbit.{fits}
 use Rattle.bits.specs.Field.{rotateBitField, reverseBitField}
 use Rattle.bits.proofs.IntegerLaws.{pos-sub-ge}
 use Rattle.fixnum.specs.declared.Answer.{Answer}
@@ -23,7 +19,7 @@ use Rattle.fixnum.specs.Domains.{isWidth, arg, within, accepts, inDomain
 use Rattle.fixnum.specs.Operations.{every, one, three, four}
 use Rattle.fixnum.specs.Table.{row, rows, isCode, rowOf}
 use Rattle.fixnum.specs.Calls.{Accepted, counted, isCount, allFixnums, sized, outcome, fixnumAnswer}
-use Rattle.bits.specs.FieldList.{rotate, reverse}
+use Rattle.bits.specs.FieldList.{rotate}
 use Rattle.fixnum.specs.Lists.{ask, isDone}
 use Rattle.fixnum.proofs.PlaceLaws.{natural-pos, count-pos}
 

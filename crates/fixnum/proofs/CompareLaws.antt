@@ -9,7 +9,6 @@ use lib.Signed.{mag}
 use mir.Syntax.{w64}
 use mir.Val.{toZ, ofZ}
 use Rattle.bits.specs.Logical.{bitwise, bitwiseFrom}
-use Rattle.words.proofs.WordLaws.{back-word}
 use Rattle.fixnum.specs.declared.Answer.{Answer}
 use Rattle.fixnum.specs.declared.loops.Fold.{Fold}
 use Rattle.fixnum.specs.Answers.{done, unless}
@@ -17,7 +16,7 @@ use Rattle.fixnum.specs.Operations.{every, question, truth, chain, foldF
 use Rattle.fixnum.specs.Steps.{relationOf, holds, step}
 use Rattle.fixnum.specs.Table.{row, rows, rowOf}
 use Rattle.fixnum.specs.Calls.{isCount, sized, outcome}
-use Rattle.fixnum.proofs.CallLaws.{between, done-cong}
+use Rattle.fixnum.proofs.CallLaws.{between, done-word}
 use Rattle.fixnum.proofs.MeaningLaws.{outcome-row}
 use Rattle.fixnum.proofs.TableLaws.{from-to}
 
@@ -45,4 +44,4 @@ pub fold-answer : (g : List ℤ → ℤ) (fold : Fold) (first : ℤ) (w code : �
     → rowOf code ≡ row least most [] 0 (every g) → g ys ≡ foldFrom (step fold) first ys
     → r ≡ done (toZ w64 (ofZ w64 y)) (pos 0) → mag y < 2 ^ 63 → y ≡ foldFrom (step fold) first ys → r ≡ outcome w code ys
 unfolding sized unless every
-fold-answer g fold first w code ys {y} e q d h p = d ∙ done-cong (back-word y h ∙ p ∙ sym q) refl ∙ sym (outcome-row w code ys e)
+fold-answer g fold first w code ys e q d h p = done-word d h (p ∙ sym q) ∙ sym (outcome-row w code ys e)

@@ -1,6 +1,6 @@
 -- Demand 3 for fixnums: every list of codes 40 and 41 on a field, at every accepted width. Assumes nothing.
 use Prim.Native.Nat.{ℕ, zero-le, _-_, _≤_, _<_, _^_}
-use native.Mathlib.Nat.{le-trans, le-of-lt, lt-of-lt-of-le, not-le-of-lt}
+use native.Mathlib.Nat.{le-trans, le-of-lt, lt-of-lt-of-le}
 use native.Mathlib.Omega.{arith}
 use mathlib.Core.Path.{_≡_, refl, sym, ap, _∙_, subst}
 use mathlib.Core.Bool.{Bool, true, false, cond, _&&_, _||_, xor}
@@ -9,7 +9,7 @@ use lib.Dec.{T, leb, eqb}
 use lib.IntN.{ℤ, pos}
 use lib.ListN.{length, length-map}
 use lib.Pow.{pow-pos, pow-lt}
-use lib.Signed.{leZ, ltZ, _≤ℤ_, _<ℤ_}
+use lib.Signed.{leZ, ltZ}
 use borrow.Author.Tests.{lt-ltb, le-ltb, le-leb}
 use Rattle.bits.specs.Testbit.{isNegative, testbit, fits, fill}
 use Rattle.bits.specs.Logical.{bitwise, bitwiseNot, bitwiseFrom, bitwiseAll, bitwiseAnds, bitwiseIors, bitwiseXors}
@@ -23,7 +23,7 @@ use Rattle.bits.proofs.ListTheorem.{ListLaw, list-theorem}
 use Rattle.fixnum.specs.declared.Answer.{Answer}
 use Rattle.fixnum.specs.Answers.{done, refuse}
 use Rattle.fixnum.specs.Domains.{isWidth}
-use Rattle.fixnum.specs.Operations.{one, every}
+use Rattle.fixnum.specs.Operations.{every}
 use Rattle.fixnum.specs.Table.{row, rows, isCode, rowOf}
 use Rattle.fixnum.specs.Calls.{allFixnums}
 use Rattle.fixnum.specs.Lists.{ask, answerTo, handOn, runAll, isDone, turned, ListStatement}

@@ -1,25 +1,24 @@
 -- `fixnum::bit::bit` meets its contract. Assumes nothing.
 use borrow.Author.Needs.{needs}
 use native.Mathlib.Omega.{arith}
-use mathlib.Core.Path.{_≡_, refl, ap, _∙_}
+use mathlib.Core.Path.{_≡_, ap, _∙_}
 use mathlib.Core.Bool.{Bool}
-use Prim.Native.Nat.{ℕ, _+_, _<_, _≤_, _^_}
-use lib.Dec.{lit<, eqb}
+use Prim.Native.Nat.{ℕ, _<_, _≤_, _^_}
+use lib.Dec.{lit<}
 use lib.IntN.{ℤ, pos, natAbs}
 use mir.Syntax.{w64}
 use mir.Val.{toZ, ofZ}
-use Rattle.bits.specs.Testbit.{testbit, fill, ofBits}
+use Rattle.bits.specs.Testbit.{testbit}
 use Rattle.bits.specs.Division.{mod0}
-use Rattle.bits.specs.Field.{copyBitField, copyBit}
-use Rattle.words.proofs.WordLaws.{back, back-word}
+use Rattle.bits.specs.Field.{copyBit}
+use Rattle.words.proofs.WordLaws.{back-word}
 use Rattle.fixnum.specs.Answers.{done, unless}
 use Rattle.fixnum.specs.Domains.{arg}
 use Rattle.fixnum.specs.Operations.{truth, question, copyBitAt}
 use Rattle.fixnum.specs.Steps.{domainsOf}
 use Rattle.fixnum.specs.Table.{rows, rowOf}
-use Rattle.fixnum.specs.Calls.{Accepted, counted, sized, outcome}
-use Rattle.fixnum.proofs.CallLaws.{width-bounds, done-cong}
-use Rattle.fixnum.proofs.DispatchLaws.{accepted-at}
+use Rattle.fixnum.specs.Calls.{counted, sized, outcome}
+use Rattle.fixnum.proofs.CallLaws.{width-bounds, done-word}
 use Rattle.fixnum.proofs.MeaningLaws.{two-outcome, three-outcome}
 use Rattle.fixnum.proofs.PlaceLaws.{natural-pos, fixnum-place, new-bit-places, position-call}
 use Rattle.fixnum.proofs.FieldCalls.{copy-below, copy-sign}
@@ -121,25 +120,19 @@ returns-2 : tie.Need-returns-2
 unfolding arg rows rowOf
 returns-2 c =
     let e = c .before .before .before in
-    c .done .ensures
-    ∙ done-cong
-    (back (record { sfits = c .before .copy-bit-field .ok })
-    ∙ c .before .copy-bit-field .ensures
+    done-word (c .done .ensures) (c .before .copy-bit-field .ok)
+    (c .before .copy-bit-field .ensures
     ∙ copy-below (start (at e) .args .width) _ _ _ (c .before .before .if2 .taken)
     (rw (number (at e)) (fixnum-place (start (at e) .pre .0) 0 (rw (code e) (lit< tt)))))
-    refl
     ∙ answer e
 
 returns-3 : tie.Need-returns-3
 unfolding arg
 returns-3 c =
     let e = c .before .before .before in
-    c .done2 .ensures
-    ∙ done-cong
-    (back (record { sfits = c .before .extend .ok })
-    ∙ c .before .extend .ensures
+    done-word (c .done2 .ensures) (c .before .extend .ok)
+    (c .before .extend .ensures
     ∙ copy-sign (start (at e) .args .width) _ _ _ (omega (arith, bounds (at e), c .before .before .if2 .left)) (new e .1))
-    refl
     ∙ answer e
 
 pub bit-spec : {M : Type 1} → statement M

@@ -1,12 +1,12 @@
 -- `fixnum::carry::carry` meets its contract. Assumes nothing.
 use borrow.Author.Needs.{needs}
 use native.Mathlib.Omega.{arith}
-use mathlib.Core.Path.{_≡_, refl, sym, ap, _∙_, subst}
+use mathlib.Core.Path.{_≡_, sym, ap, _∙_, subst}
 use Prim.Native.Nat.{_+_, _<_, _^_}
 use lib.Dec.{eqb}
 use lib.IntN.{ℤ, natAbs, _+ℤ_, _*ℤ_}
 use mir.Syntax.{w64}
-use mir.Val.{SFits, toZ, ofZ}
+use mir.Val.{SFits}
 use Rattle.words.specs.Wide.{wideValue}
 use Rattle.words.proofs.WordLaws.{back}
 use Rattle.words.proofs.WideLaws.{word-room, sum-room, product-room}

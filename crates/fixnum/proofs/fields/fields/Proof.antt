@@ -1,7 +1,7 @@
 -- `fixnum::fields::fields` meets its contract. Assumes nothing.
 use borrow.Author.Needs.{needs}
 use native.Mathlib.Omega.{arith}
-use mathlib.Core.Path.{_≡_, refl, ap, _∙_}
+use mathlib.Core.Path.{_≡_, ap, _∙_}
 use Prim.Native.Nat.{ℕ, _-_, _≤_, _<_}
 use lib.IntN.{ℤ, pos, natAbs}
 use mir.Syntax.{w64}
@@ -16,7 +16,7 @@ use Rattle.fixnum.specs.Operations.{three, four}
 use Rattle.fixnum.specs.Steps.{domainsOf}
 use Rattle.fixnum.specs.Table.{rows, rowOf}
 use Rattle.fixnum.specs.Calls.{sized}
-use Rattle.fixnum.proofs.CallLaws.{done-cong}
+use Rattle.fixnum.proofs.CallLaws.{done-word}
 use Rattle.fixnum.proofs.MeaningLaws.{three-outcome, four-outcome}
 use Rattle.fixnum.proofs.PlaceLaws.{natural-pos, rotation-places, field-call}
 use Rattle.fixnum.proofs.FieldCalls.{field-lt, field-word}
@@ -139,8 +139,7 @@ returns : tie.Need-returns
 unfolding sized unless arg rows rowOf three
 returns c =
     let a = c .before .before .before in
-    c .done .ensures
-    ∙ done-cong (back (cast-done (c .before)) ∙ bitField-number _ _ _ (c .before .bit-field .ensures) ∙ on-field a bitField) refl
+    done-word (c .done .ensures) (cast-done (c .before) .sfits) (bitField-number _ _ _ (c .before .bit-field .ensures) ∙ on-field a bitField)
     ∙ three-outcome (λ v x s e. (bitField x (natAbs s) (natAbs e), pos 0)) (ap rowOf (c .before .before .match .keys1)) (start a .pre .0)
 
 returns-2 : tie.Need-returns-2
@@ -148,14 +147,11 @@ unfolding sized unless arg rows rowOf four
 returns-2 c =
     let l = c .before .before in
     let a = l .before .before .before in
-    c .done2 .ensures
-    ∙ done-cong
-    (back (record { sfits = c .before .copy-bit-field .ok })
-    ∙ c .before .copy-bit-field .ensures
+    done-word (c .done2 .ensures) (c .before .copy-bit-field .ok)
+    (c .before .copy-bit-field .ensures
     ∙ copyBitField-put _ _ _ _ (l .low-bits .ensures)
     ∙ ap (copyBitField _ _ _) (back (record { sfits = l .before .low-bits-arg .given }))
     ∙ on-field a (λ x s e. copyBitField x s e (arg (start a .args .t3) 3)))
-    refl
     ∙ four-outcome (λ v x s e y. (copyBitField x (natAbs s) (natAbs e) y, pos 0)) (ap rowOf (l .before .before .match .keys2)) (start a .pre .0)
 
 returns-3 : tie.Need-returns-3
@@ -164,14 +160,11 @@ returns-3 c =
     let r = c .before .before in
     let k = r .before .before in
     let a = k .before .before .before in
-    c .done3 .ensures
-    ∙ done-cong
-    (back (record { sfits = c .before .copy-bit-field2 .ok })
-    ∙ c .before .copy-bit-field2 .ensures
+    done-word (c .done3 .ensures) (c .before .copy-bit-field2 .ok)
+    (c .before .copy-bit-field2 .ensures
     ∙ rotate-put _ _ _ _ (r .before .bit-field2 .ensures) (r .rotate .ensures)
     ∙ ap (rotateBitField _ _ _) (count k .0)
     ∙ on-field a (λ x s e. rotateBitField x s e (arg (start a .args .t3) 3)))
-    refl
     ∙ four-outcome (λ v x s e y. (rotateBitField x (natAbs s) (natAbs e) y, pos 0)) (ap rowOf (k .before .before .match .keys3)) (start a .pre .0)
 
 returns-4 : tie.Need-returns-4
@@ -181,13 +174,10 @@ returns-4 c =
     let a = r .before .before .before in
     let l : 36 < start a .args .code = omega arith in
     let e : start a .args .code ≡ 41 = omega (arith, start a .pre .1 .2 l) in
-    c .done4 .ensures
-    ∙ done-cong
-    (back (record { sfits = c .before .copy-bit-field3 .ok })
-    ∙ c .before .copy-bit-field3 .ensures
+    done-word (c .done4 .ensures) (c .before .copy-bit-field3 .ok)
+    (c .before .copy-bit-field3 .ensures
     ∙ reverse-put _ _ _ (r .before .bit-field3 .ensures) (r .reverse .ensures)
     ∙ on-field a reverseBitField)
-    refl
     ∙ three-outcome (λ v x s e. (reverseBitField x (natAbs s) (natAbs e), pos 0)) (ap rowOf e) (start a .pre .0)
 
 pub fields-spec : {M : Type 1} → statement M

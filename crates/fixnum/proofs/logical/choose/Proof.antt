@@ -1,14 +1,15 @@
 -- `fixnum::logical::choose` meets its contract. Assumes nothing.
 use borrow.Author.Needs.{needs}
-use mathlib.Core.Path.{refl, ap, ap₂, _∙_}
-use lib.IntN.{ℤ, pos}
+use mathlib.Core.Path.{refl, ap₂, _∙_}
+use lib.IntN.{pos}
 use Rattle.bits.specs.Logical.{bitwiseAnd, bitwiseIor, bitwiseIf}
 use Rattle.words.proofs.WordLaws.{back, not-word}
-use Rattle.fixnum.specs.Answers.{done, unless}
+use Rattle.fixnum.specs.Answers.{unless}
 use Rattle.fixnum.specs.Domains.{arg}
 use Rattle.fixnum.specs.Operations.{three}
 use Rattle.fixnum.specs.Table.{rows, rowOf}
 use Rattle.fixnum.specs.Calls.{sized}
+use Rattle.fixnum.proofs.CallLaws.{done-word}
 use Rattle.fixnum.proofs.MeaningLaws.{three-outcome}
 use Rattle.fixnum.proofs.logical.choose.Statement.{statement}
 use Rattle.fixnum.proofs.logical.choose.Tie as tie
@@ -38,10 +39,8 @@ returns : tie.Need-returns
 unfolding sized unless rows rowOf arg three bitwiseIf
 returns c =
     let z = c .before .before .before .before in
-    c .done .ensures
-    ∙ ap (λ (r : ℤ). done r (pos 0))
-    (back (record { sfits = c .before .ior .ok })
-    ∙ c .before .ior .ensures
+    done-word (c .done .ensures) (c .before .ior .ok)
+    (c .before .ior .ensures
     ∙ ap₂ bitwiseIor
     (back (record { sfits = c .before .before .before .and .ok })
     ∙ c .before .before .before .and .ensures

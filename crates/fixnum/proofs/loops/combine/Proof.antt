@@ -49,50 +49,57 @@ choice a b h k e = ap (λ (t : Bool). cond t a b) (sym (rw (back h, back k) at e
 returns : tie.Need-returns
 unfolding step larger
 returns c =
-    back (c .before .before .before .fits .y)
-    ∙ choice {x = c .before .before .before .args .x} (c .before .before .before .args .y) (c .before .before .before .args .x) (c .before .before .before .fits .x) (c .before .before .before .fits .y) (c .if1 .taken)
+    let a = c .before .before .before in
+    back (a .fits .y)
+    ∙ choice {x = a .args .x} (a .args .y) (a .args .x) (a .fits .x) (a .fits .y) (c .if1 .taken)
     ∙ arm _ _ (c .before .enum-told .given .1)
 
 returns-2 : tie.Need-returns-2
 unfolding step larger
 returns-2 c =
-    back (c .before .before .before .fits .x)
-    ∙ choice {x = c .before .before .before .args .x} (c .before .before .before .args .y) (c .before .before .before .args .x) (c .before .before .before .fits .x) (c .before .before .before .fits .y) (c .if1 .left)
+    let a = c .before .before .before in
+    back (a .fits .x)
+    ∙ choice {x = a .args .x} (a .args .y) (a .args .x) (a .fits .x) (a .fits .y) (c .if1 .left)
     ∙ arm _ _ (c .before .enum-told .given .1)
 
 returns-3 : tie.Need-returns-3
 unfolding step smaller
 returns-3 c =
-    back (c .before .before .before .fits .y)
-    ∙ choice {x = c .before .before .before .args .y} (c .before .before .before .args .y) (c .before .before .before .args .x) (c .before .before .before .fits .y) (c .before .before .before .fits .x) (c .if2 .taken)
+    let a = c .before .before .before in
+    back (a .fits .y)
+    ∙ choice {x = a .args .y} (a .args .y) (a .args .x) (a .fits .y) (a .fits .x) (c .if2 .taken)
     ∙ arm _ _ (c .before .enum-told2 .given .1)
 
 returns-4 : tie.Need-returns-4
 unfolding step smaller
 returns-4 c =
-    back (c .before .before .before .fits .x)
-    ∙ choice {x = c .before .before .before .args .y} (c .before .before .before .args .y) (c .before .before .before .args .x) (c .before .before .before .fits .y) (c .before .before .before .fits .x) (c .if2 .left)
+    let a = c .before .before .before in
+    back (a .fits .x)
+    ∙ choice {x = a .args .y} (a .args .y) (a .args .x) (a .fits .y) (a .fits .x) (c .if2 .left)
     ∙ arm _ _ (c .before .enum-told2 .given .1)
 
 returns-5 : tie.Need-returns-5
 unfolding step
 returns-5 c =
+    let a = c .before .before .before in
     back-word (c .and .result) (c .and .ok)
-    ∙ (rw (back (c .before .before .before .fits .x), back (c .before .before .before .fits .y)) at (c .and .ensures))
+    ∙ (rw (back (a .fits .x), back (a .fits .y)) at (c .and .ensures))
     ∙ arm _ _ (c .before .enum-told3 .given .1)
 
 returns-6 : tie.Need-returns-6
 unfolding step
 returns-6 c =
+    let a = c .before .before .before in
     back-word (c .ior .result) (c .ior .ok)
-    ∙ (rw (back (c .before .before .before .fits .x), back (c .before .before .before .fits .y)) at (c .ior .ensures))
+    ∙ (rw (back (a .fits .x), back (a .fits .y)) at (c .ior .ensures))
     ∙ arm _ _ (c .before .enum-told4 .given .1)
 
 returns-7 : tie.Need-returns-7
 unfolding step
 returns-7 c =
+    let a = c .before .before .before in
     back-word (c .xor .result) (c .xor .ok)
-    ∙ (rw (back (c .before .before .before .fits .x), back (c .before .before .before .fits .y)) at (c .xor .ensures))
+    ∙ (rw (back (a .fits .x), back (a .fits .y)) at (c .xor .ensures))
     ∙ arm _ _ (c .before .enum-told5 .given .1)
 
 pub combine-spec : {M : Type 1} → statement M

@@ -9,13 +9,13 @@ use mir.Syntax.{w64}
 use mir.Val.{toZ, ofZ}
 use Rattle.bits.specs.Testbit.{isNegative}
 use Rattle.bits.specs.Shift.{shiftLeft, shiftRight, arithmeticShift}
-use Rattle.words.proofs.WordLaws.{back, back-word}
+use Rattle.words.proofs.WordLaws.{back-word}
 use Rattle.fixnum.specs.Answers.{unless}
 use Rattle.fixnum.specs.Domains.{arg}
 use Rattle.fixnum.specs.Operations.{two}
 use Rattle.fixnum.specs.Table.{rows, rowOf}
 use Rattle.fixnum.specs.Calls.{sized}
-use Rattle.fixnum.proofs.CallLaws.{done-cong, sized-cong, sized-fits}
+use Rattle.fixnum.proofs.CallLaws.{done-word, sized-cong, sized-fits}
 use Rattle.fixnum.proofs.MeaningLaws.{two-outcome}
 use Rattle.fixnum.proofs.PlaceLaws.{fixnum-place, shift-call}
 use Rattle.fixnum.proofs.ShiftLaws.{right-fits, shift-left, shift-right}
@@ -82,8 +82,7 @@ unfolding rows rowOf arg two
 returns c =
     let a = c .before .before .before .before .before in
     let e = c .before .before .before .before .match .keys1 in
-    c .done .ensures
-    ∙ done-cong (back (record { sfits = c .before .right .ok }) ∙ c .before .right .ensures ∙ on-places a shiftRight) refl
+    done-word (c .done .ensures) (c .before .right .ok) (c .before .right .ensures ∙ on-places a shiftRight)
     ∙ sym (sized-fits 6 (start a .args .width) _ _ (right-fits _ _ _ (fixnum-place (start a .pre .0) 0 (rw e (lit< tt)))))
     ∙ sized-cong 6 (start a .args .width) (sym (shift-right _ _ (sign (c .before .before .before) ∙ c .before .before .if1 .taken))) refl
     ∙ two-outcome (λ v x d. (arithmeticShift x d, pos 0)) (ap rowOf e) (start a .pre .0)
@@ -110,8 +109,7 @@ unfolding sized unless rows rowOf arg two
 returns-4 c =
     let a = c .before .before .before in
     let e : start a .args .code ≡ 39 = omega arith in
-    c .done2 .ensures
-    ∙ done-cong (back (record { sfits = c .before .right2 .ok }) ∙ c .before .right2 .ensures ∙ on-places a shiftRight) refl
+    done-word (c .done2 .ensures) (c .before .right2 .ok) (c .before .right2 .ensures ∙ on-places a shiftRight)
     ∙ two-outcome (λ v x d. (shiftRight x (natAbs d), pos 0)) (ap rowOf e) (start a .pre .0)
 
 pub shift-spec : {M : Type 1} → statement M
