@@ -127,8 +127,22 @@ position-call {w} {code} {xs} {n} h a =
 pub field-call : {w code : ℕ} {xs : List ℤ} {n : ℕ} → (35 ≤ code) × (code ≤ 41) × (36 < code → 40 ≤ code) → Accepted w code xs n → FieldPlaces xs
 unfolding rows rowOf domainsOf
 field-call {w} {code} {xs} {n} h a =
-    from-to (λ c. (36 < c → 40 ≤ c) → Accepted w c xs n → FieldPlaces xs) 35 7
-    (λ k b. plain-field b refl, (λ k b. plain-field b refl, (λ k b. absurd (omega (arith, k (lit< tt))), (λ k b. absurd (omega (arith, k (lit< tt))), (λ k b. absurd (omega (arith, k (lit< tt))), (λ k b. rotation-places b refl .0, (λ k b. plain-field b refl, tt)))))))
+    from-to (λ c. (36 < c → 40 ≤ c) → Accepted w c xs n → FieldPlaces xs) 35 7 (
+      λ k b. plain-field b refl,
+      (
+        λ k b. plain-field b refl,
+        (
+          λ k b. absurd (omega (arith, k (lit< tt))),
+          (
+            λ k b. absurd (omega (arith, k (lit< tt))),
+            (
+              λ k b. absurd (omega (arith, k (lit< tt))),
+              (λ k b. rotation-places b refl .0, (λ k b. plain-field b refl, tt)),
+            ),
+          ),
+        ),
+      ),
+    )
     code (h .0) (omega arith) (h .2) a
 
 pub shift-call : {w code : ℕ} {xs : List ℤ} {n : ℕ} → (37 ≤ code) × (code ≤ 39) → Accepted w code xs n → natAbs (arg xs 1) < 64
