@@ -1,20 +1,16 @@
 -- The stages of an answer, passed one by one; and the answers to the codes that demand 3 speaks of. Assumes nothing.
-use Prim.Native.Nat.{ℕ, zero, zero-le, suc, _+_, _-_, _≤_, _<_, _^_}
+use Prim.Native.Nat.{ℕ, zero, zero-le, suc, _-_, _≤_, _<_, _^_}
 use native.Mathlib.Nat.{le-trans, lt-of-le-of-lt, pow-suc}
 use native.Mathlib.Omega.{arith}
-use mathlib.Core.Path.{_≡_, refl, sym, ap, _∙_, subst}
-use mathlib.Core.Bool.{Bool, true, false, cond, _&&_, _||_, xor}
+use mathlib.Core.Path.{_≡_, refl, ap, _∙_, subst}
+use mathlib.Core.Bool.{Bool, true, false, cond, _&&_}
 use mathlib.Core.List.{List, [], _∷_}
-use lib.Dec.{leb, ltb, eqb, lit<}
-use lib.IntN.{ℤ, pos, negsuc, natAbs, _-ℤ_}
+use lib.Dec.{lit<}
+use lib.IntN.{ℤ, pos, natAbs}
 use lib.ListN.{length}
 use lib.Seq.{take-length}
-use lib.Pow.{pow-pos}
-use lib.Signed.{leZ, ltZ}
-use borrow.Author.Tests.{le-leb, lt-ltb, leb-true, ltb-true}
-use Rattle.bits.specs.Testbit.{isNegative, testbit, fits}
-use Rattle.bits.specs.Logical.{bitwiseNot, bitwiseAnds, bitwiseIors, bitwiseXors}
-use Rattle.bits.specs.Count.{bitCount}
+use borrow.Author.Tests.{le-leb, lt-ltb}
+use Rattle.bits.specs.Testbit.{fits}
 use Rattle.bits.specs.Field.{rotateBitField, reverseBitField}
 use Rattle.bits.proofs.IntegerLaws.{pos-sub-ge}
 use Rattle.fixnum.specs.declared.Answer.{Answer}
@@ -23,9 +19,9 @@ use Rattle.fixnum.specs.Domains.{isWidth, arg, within, accepts, inDomain
 use Rattle.fixnum.specs.Operations.{every, one, three, four}
 use Rattle.fixnum.specs.Table.{row, rows, isCode, rowOf}
 use Rattle.fixnum.specs.Calls.{Accepted, counted, isCount, allFixnums, sized, outcome, fixnumAnswer}
-use Rattle.bits.specs.FieldList.{rotate, reverse}
+use Rattle.bits.specs.FieldList.{rotate}
 use Rattle.fixnum.specs.Lists.{ask, isDone}
-use Rattle.fixnum.proofs.CallLaws.{width-bounds, both-left, both-right}
+use Rattle.fixnum.proofs.PlaceLaws.{natural-pos, count-pos}
 
 -- a stage passed, and one that refuses
 pub passed : {t : Bool} (k : ℕ) (a : Answer) → t ≡ true → unless t k a ≡ a
@@ -47,12 +43,6 @@ accepted w code xs n k a =
 lt-two-pow : (k : ℕ) → k < 2 ^ k
 lt-two-pow zero = lit< tt
 lt-two-pow (suc k) = omega (arith, pow-suc 2 k, lt-two-pow k)
-
--- a count from 0 to size - 1 is a natural number below the size
-count-pos : (size : ℕ) (c : ℤ) → isDone size (rotate c) ≡ true → (n : ℕ) × (c ≡ pos n) × (n < size)
-unfolding isDone
-count-pos size (pos n) h = (n, refl, ltb-true n size (both-right (leb 0 n) (ltb n size) h))
-count-pos size (negsuc n) h = let z : _≡_ {A = ℕ} 0 1 = cc in absurd (omega arith)
 
 module _ (w : ℕ) (a : isWidth w ≡ true) where
   -- a position is a fixnum
@@ -82,9 +72,10 @@ module _ (w : ℕ) (a : isWidth w ≡ true) where
     -- code 40, by its count
     module _ (c : ℤ) where
       count-fits : isDone (end - start) (rotate c) ≡ true → fits w c ≡ true
+      unfolding isDone
       count-fits d =
           let n = count-pos (end - start) c d in
-          subst (λ (z : ℤ). fits w z ≡ true) (sym (n .1)) (position-fits (n .0) (omega (arith, n .2)))
+          subst (λ (z : ℤ). fits w z ≡ true) (natural-pos c (n .0)) (position-fits (natAbs c) (omega (arith, n .1)))
 
       pub rotate-answer : isDone (end - start) (rotate c) ≡ true
           → ask w 40 (x ∷ pos start ∷ pos end ∷ c ∷ []) ≡ done (rotateBitField x start end c) (pos 0)

@@ -7,15 +7,16 @@ use mathlib.Core.Bool.{Bool, true, false, cond, _&&_, _||_}
 use mathlib.Core.List.{List, [], _∷_}
 use lib.Dec.{leb, eqb}
 use lib.IntN.{ℤ, pos}
-use lib.ListN.{getD, take}
+use lib.ListN.{take}
 use lib.Pow.{pow-pos, pow-mono}
 use lib.Seq.{getD-take}
 use lib.Signed.{mag}
 use mir.Syntax.{w64}
-use mir.Val.{SFits}
+use mir.Val.{SFits, toZ, ofZ}
 use borrow.Author.Tests.{leb-true, lt-ltb, ne-eqb}
 use Rattle.bits.specs.Testbit.{fits}
-use Rattle.words.proofs.WordLaws.{fits-mag}
+use Rattle.words.proofs.WordLaws.{back-word, fits-mag}
+use Rattle.fixnum.specs.declared.Answer.{Answer}
 use Rattle.fixnum.specs.Answers.{done, refuse, unless}
 use Rattle.fixnum.specs.Domains.{leastWidth, largestWidth, isWidth, arg}
 use Rattle.fixnum.specs.Calls.{counted, allFixnums, sized}
@@ -82,6 +83,13 @@ fits-word w x a h = lt-ltb (mag x) (2 ^ 63) (word-fixnum w x a h .sfits)
 
 pub done-cong : {a a′ b b′ : ℤ} → a ≡ a′ → b ≡ b′ → done a b ≡ done a′ b′
 done-cong p q = cc
+
+-- an answer from the word that holds its one result
+pub done-word : {r : Answer} {y z : ℤ} → r ≡ done (toZ w64 (ofZ w64 y)) (pos 0) → mag y < 2 ^ 63 → y ≡ z → r ≡ done z (pos 0)
+done-word {y} d h e = d ∙ ap (λ (x : ℤ). done x (pos 0)) (back-word y h ∙ e)
+
+pub sized-cong : {a a′ b b′ : ℤ} (k w : ℕ) → a ≡ a′ → b ≡ b′ → sized k w (a, b) ≡ sized k w (a′, b′)
+sized-cong k w p q = cc
 
 -- the size test, passed and failed
 pub sized-fits : (k w : ℕ) (a b : ℤ) → fits w a ≡ true → sized k w (a, b) ≡ done a b

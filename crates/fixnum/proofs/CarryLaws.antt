@@ -2,21 +2,23 @@
 use Prim.Native.Nat.{ℕ, suc, _+_, _*_, _-_, _≤_, _<_, _^_}
 use native.Mathlib.Nat.{mul-le-mul, pow-suc}
 use native.Mathlib.Omega.{arith}
-use mathlib.Core.Path.{_≡_, sym, ap, subst}
-use mathlib.Core.Bool.{true, _&&_}
-use mathlib.Core.List.{List}
-use lib.Dec.{leb, lit<}
+use mathlib.Core.Path.{_≡_, refl, subst}
+use mathlib.Core.Bool.{Bool, true, false, cond}
+use mathlib.Core.List.{List, []}
+use lib.Dec.{eqb, lit<}
 use lib.IntN.{ℤ, pos, natAbs, _+ℤ_, _-ℤ_, _*ℤ_}
 use lib.Pow.{pow-pos, pow-mono, pow-add}
 use lib.Signed.{natAbs-le}
 use Rattle.bits.specs.Division.{div0, mod0}
 use Rattle.words.proofs.WordLaws.{fits-mag}
 use Rattle.words.proofs.SignedLaws.{natAbs-add, natAbs-sub, natAbs-mul}
-use Rattle.fixnum.specs.Domains.{isWidth, arg}
+use Rattle.fixnum.specs.Domains.{arg}
 use Rattle.fixnum.specs.Operations.{carry}
-use Rattle.fixnum.specs.Table.{rows, rowOf}
-use Rattle.fixnum.specs.Calls.{Accepted, counted, isCount, allFixnums, sized, outcome}
-use Rattle.fixnum.proofs.CallLaws.{width-bounds, exactly, arg-exactly, fits-arg}
+use Rattle.fixnum.specs.Table.{row, rows, rowOf}
+use Rattle.fixnum.specs.Calls.{Accepted}
+use Rattle.fixnum.proofs.CallLaws.{width-bounds}
+use Rattle.fixnum.proofs.TableLaws.{from-to}
+use Rattle.fixnum.proofs.PlaceLaws.{fixnum-place}
 
 -- ---- the results
 
@@ -24,26 +26,24 @@ use Rattle.fixnum.proofs.CallLaws.{width-bounds, exactly, arg-exactly, 
 abbrev pub partsOf : ℕ → ℤ → ℤ × ℤ
 partsOf w s = (mod0 s (pos (2 ^ w)), div0 s (pos (2 ^ w)))
 
-carry-counted : (f : ℤ → ℤ → ℤ → ℤ) (w : ℕ) (xs : List ℤ) (n : ℕ) → leb 3 n && leb n 3 ≡ true
-    → carry f w (counted xs n) ≡ partsOf w (f (arg xs 0) (arg xs 1) (arg xs 2))
-unfolding carry
-carry-counted f w xs n h =
-    rw (arg-exactly xs 3 n 0 h (lit< tt), arg-exactly xs 3 n 1 h (lit< tt), arg-exactly xs 3 n 2 h (lit< tt))
+-- x - y where minus, else x + y
+abbrev pub signed : Bool → ℤ → ℤ → ℤ
+signed minus x y = cond minus (x -ℤ y) (x +ℤ y)
 
-pub plus-carry-outcome : (w : ℕ) (xs : List ℤ) (n : ℕ) → Accepted w 22 xs n
-    → outcome w 22 (counted xs n) ≡ sized 0 w (partsOf w ((arg xs 0 +ℤ arg xs 1) +ℤ arg xs 2))
-unfolding outcome rowOf rows isCount
-plus-carry-outcome w xs n a = ap (sized 0 w) (carry-counted (λ x y z. (x +ℤ y) +ℤ z) w xs n (a .arity))
+pub natAbs-signed : (minus : Bool) (x y : ℤ) → natAbs (signed minus x y) ≤ natAbs x + natAbs y
+natAbs-signed true x y = natAbs-sub x y
+natAbs-signed false x y = natAbs-add x y
 
-pub minus-carry-outcome : (w : ℕ) (xs : List ℤ) (n : ℕ) → Accepted w 23 xs n
-    → outcome w 23 (counted xs n) ≡ sized 0 w (partsOf w ((arg xs 0 -ℤ arg xs 1) -ℤ arg xs 2))
-unfolding outcome rowOf rows isCount
-minus-carry-outcome w xs n a = ap (sized 0 w) (carry-counted (λ x y z. (x -ℤ y) -ℤ z) w xs n (a .arity))
+abbrev pub signedSum : ℕ → ℤ → ℤ → ℤ → ℤ
+signedSum code x y z = signed (eqb code 23) (signed (eqb code 23) x y) z
 
-pub times-carry-outcome : (w : ℕ) (xs : List ℤ) (n : ℕ) → Accepted w 24 xs n
-    → outcome w 24 (counted xs n) ≡ sized 0 w (partsOf w ((arg xs 0 *ℤ arg xs 1) +ℤ arg xs 2))
-unfolding outcome rowOf rows isCount
-times-carry-outcome w xs n a = ap (sized 0 w) (carry-counted (λ x y z. (x *ℤ y) +ℤ z) w xs n (a .arity))
+pub sum-row : (code : ℕ) → 22 ≤ code → code ≤ 23 → rowOf code ≡ row 3 3 [] 0 (carry (signedSum code))
+unfolding rows rowOf
+sum-row code h k = from-to (λ c. rowOf c ≡ row 3 3 [] 0 (carry (signedSum c))) 22 2 (refl, (refl, tt)) code h (omega arith)
+
+least-three : (code : ℕ) → (22 ≤ code) × (code ≤ 24) → 2 < rowOf code .least
+unfolding rows rowOf
+least-three code h = from-to (λ c. 2 < rowOf c .least) 22 3 (lit< tt, (lit< tt, (lit< tt, tt))) code (h .0) (omega arith)
 
 -- ---- their sizes
 
@@ -59,22 +59,17 @@ square w n h k l =
     let e : 62 + w ≡ suc (suc (60 + w)) = omega arith in
     rw e (omega (arith, pow-pos (60 + w), pow-suc 2 (60 + w), pow-suc 2 (suc (60 + w))))
 
--- three arguments of an accepted call
-module _ (w : ℕ) (xs : List ℤ) (n : ℕ) (width : isWidth w ≡ true) (fixnums : allFixnums w (counted xs n) ≡ true) (arity : leb 3 n && leb n 3 ≡ true) where
+module _ {w code : ℕ} {xs : List ℤ} {n : ℕ} (h : (22 ≤ code) × (code ≤ 24)) (a : Accepted w code xs n) where
   absolute-at : (i : ℕ) → i < 3 → natAbs (arg xs i) ≤ 2 ^ (w - 1)
-  absolute-at i h =
-      natAbs-le (arg xs i) (fits-mag w (arg xs i) (fits-arg w xs n i fixnums (subst (λ (m : ℕ). i < m) (sym (exactly 3 n arity)) h)))
+  absolute-at i l = natAbs-le (arg xs i) (fits-mag w (arg xs i) (fixnum-place a i (omega (arith, least-three code h))))
 
-  absolutes : (natAbs (arg xs 0) ≤ 2 ^ (w - 1)) × (natAbs (arg xs 1) ≤ 2 ^ (w - 1)) × (natAbs (arg xs 2) ≤ 2 ^ (w - 1))
-  absolutes = (absolute-at 0 (lit< tt), absolute-at 1 (lit< tt), absolute-at 2 (lit< tt))
-
-  pub sum-size : natAbs ((arg xs 0 +ℤ arg xs 1) +ℤ arg xs 2) < 2 ^ (62 + w)
-  sum-size = three-halves w (natAbs ((arg xs 0 +ℤ arg xs 1) +ℤ arg xs 2)) (omega (arith, absolutes, natAbs-add (arg xs 0 +ℤ arg xs 1) (arg xs 2), natAbs-add (arg xs 0) (arg xs 1)))
-
-  pub difference-size : natAbs ((arg xs 0 -ℤ arg xs 1) -ℤ arg xs 2) < 2 ^ (62 + w)
-  difference-size = three-halves w (natAbs ((arg xs 0 -ℤ arg xs 1) -ℤ arg xs 2)) (omega (arith, absolutes, natAbs-sub (arg xs 0 -ℤ arg xs 1) (arg xs 2), natAbs-sub (arg xs 0) (arg xs 1)))
+  pub sum-size : (minus : Bool) → natAbs (signed minus (signed minus (arg xs 0) (arg xs 1)) (arg xs 2)) < 2 ^ (62 + w)
+  sum-size minus =
+      three-halves w (natAbs (signed minus (signed minus (arg xs 0) (arg xs 1)) (arg xs 2)))
+      (omega (arith, absolute-at 0 (lit< tt), absolute-at 1 (lit< tt), absolute-at 2 (lit< tt), natAbs-signed minus (signed minus (arg xs 0) (arg xs 1)) (arg xs 2), natAbs-signed minus (arg xs 0) (arg xs 1)))
 
   pub product-size : natAbs ((arg xs 0 *ℤ arg xs 1) +ℤ arg xs 2) < 2 ^ (62 + w)
   product-size =
-      let b = width-bounds w width in
-      square w (natAbs ((arg xs 0 *ℤ arg xs 1) +ℤ arg xs 2)) (omega arith) (omega arith) (omega (arith, absolutes, natAbs-add (arg xs 0 *ℤ arg xs 1) (arg xs 2), natAbs-mul (arg xs 0) (arg xs 1), mul-le-mul (absolute-at 0 (lit< tt)) (absolute-at 1 (lit< tt))))
+      let b = width-bounds w (a .width) in
+      square w (natAbs ((arg xs 0 *ℤ arg xs 1) +ℤ arg xs 2)) (omega arith) (omega arith)
+      (omega (arith, absolute-at 2 (lit< tt), natAbs-add (arg xs 0 *ℤ arg xs 1) (arg xs 2), natAbs-mul (arg xs 0) (arg xs 1), mul-le-mul (absolute-at 0 (lit< tt)) (absolute-at 1 (lit< tt))))

@@ -9,7 +9,7 @@ use lib.Dec.{eqb}
 use lib.IntN.{ℤ, pos}
 use lib.ListN.{length, length-map}
 use lib.Pow.{pow-lt}
-use lib.Signed.{leZ, ltZ, _≤ℤ_, _<ℤ_}
+use lib.Signed.{leZ, ltZ}
 use borrow.Author.Tests.{lt-ltb, le-leb}
 use Rattle.bits.specs.Testbit.{isNegative, testbit, fits, fill}
 use Rattle.bits.specs.Logical.{bitwise, bitwiseNot, bitwiseFrom, bitwiseAll, bitwiseAnds, bitwiseIors, bitwiseXors}
@@ -23,7 +23,7 @@ use Rattle.bits.proofs.ListTheorem.{ListLaw, list-theorem}
 use Rattle.fixnum.specs.declared.Answer.{Answer}
 use Rattle.fixnum.specs.Answers.{done, refuse}
 use Rattle.fixnum.specs.Domains.{isWidth}
-use Rattle.fixnum.specs.Operations.{one, every}
+use Rattle.fixnum.specs.Operations.{every}
 use Rattle.fixnum.specs.Table.{row, rows, isCode, rowOf}
 use Rattle.fixnum.specs.Calls.{allFixnums}
 use Rattle.fixnum.specs.Lists.{ask, answerTo, handOn, runAll, isDone, turned, ListStatement}

@@ -1,13 +1,12 @@
 -- The domains of each shape of operation, said of the places. Assumes nothing.
-use Prim.Native.Nat.{ℕ, zero, zero-le, suc, _-_, _≤_, _<_, _^_}
+use Prim.Native.Nat.{ℕ, zero, zero-le, suc, _-_, _≤_}
 use native.Mathlib.Nat.{lt-of-le-of-lt, sub-le, le-suc}
 use native.Mathlib.Omega.{arith}
 use mathlib.Core.Path.{_≡_, refl, sym, ap, _∙_, subst}
 use mathlib.Core.Bool.{Bool, true, false, _&&_}
 use mathlib.Core.List.{List}
-use lib.Dec.{ltb, lit<}
+use lib.Dec.{ltb}
 use lib.IntN.{ℤ, pos, negsuc, negℤ, natAbs, _-ℤ_, +ℤ-idl}
-use lib.ListN.{length}
 use lib.Signed.{mag, leZ, ltZ}
 use mir.Syntax.{w64}
 use mir.Val.{SFits, toZ, ofZ}

@@ -11,6 +11,7 @@ pub mod Demand3
 pub mod ResultLaws
 pub mod Closure
 pub mod Cases
+pub mod PlaceLaws
 pub mod FieldCalls
 pub mod DispatchLaws
 pub mod ArithmeticLaws

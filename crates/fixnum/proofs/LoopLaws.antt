@@ -3,17 +3,16 @@ use Prim.Native.Nat.{ℕ, zero, suc, _+_, _-_, _≤_, _<_, _^_}
 use native.Mathlib.Nat.{le-antisymm}
 use native.Mathlib.Numerals.{add-one}
 use native.Mathlib.Omega.{arith}
-use mathlib.Core.Path.{_≡_, refl, sym, ap, _∙_, subst}
+use mathlib.Core.Path.{_≡_, refl, sym, ap, _∙_}
 use mathlib.Core.Bool.{Bool, true, false, _&&_}
 use mathlib.Core.List.{List, [], _∷_}
 use lib.Dec.{eqb, leb}
 use lib.IntN.{ℤ, pos, negsuc}
-use lib.ListN.{length, take, drop, getD, length-take}
+use lib.ListN.{length, take, drop, length-take}
 use lib.Seq.{drop-cons, getD-take, length-take-le}
-use lib.Signed.{leZ}
 use mir.Syntax.{w64}
 use mir.Val.{SFits, ofZ}
-use borrow.Author.Tests.{eq-eqb, ne-eqb, eqb-true, eqb-false, leb-true, leb-false, le-leb, lt-leb}
+use borrow.Author.Tests.{eq-eqb, ne-eqb, eqb-true, eqb-false, leb-true, leb-false}
 use Rattle.bits.specs.Testbit.{fits}
 use Rattle.fixnum.specs.Domains.{arg}
 use Rattle.fixnum.specs.Operations.{equal, chainFrom, chain, foldFrom}

@@ -1,8 +1,8 @@
 // Codes 22 to 24: an exact sum, difference or product s of three arguments, as s mod0 2^width and s div0 2^width.
 ghost use mathlib.Core.Path.{_≡_};
-ghost use mathlib.Core.Bool.{true};
+ghost use mathlib.Core.Bool.{true, cond};
 ghost use Prim.Native.Nat.{_+_, _≤_, _<_, _^_};
-ghost use lib.IntN.{pos, natAbs};
+ghost use lib.IntN.{pos, natAbs, _+ℤ_, _-ℤ_};
 ghost use Rattle.bits.specs.Division.{div0, mod0};
 ghost use Rattle.words.specs.Wide.{wideValue};
 ghost use Rattle.fixnum.specs.Answers as answers;
@@ -18,6 +18,18 @@ use words::wide::product;
 use words::wide::subtract_word;
 use words::wide::widen;
 
+// s - x where minus, else s + x.
+fn add_signed(s: Wide, minus: bool, x: i64) -> Wide
+    requires { ⌜ natAbs (wideValue s) < 2 ^ 127 ⌝ }
+    ensures { λ r. ⌜ wideValue r ≡ cond minus (wideValue s -ℤ x) (wideValue s +ℤ x) ⌝ }
+{
+    if minus {
+        subtract_word(s, x)
+    } else {
+        add_word(s, x)
+    }
+}
+
 fn parts(width: u64, s: Wide) -> Answer
     requires { ⌜ isWidth width ≡ true ⌝ }
     requires { ⌜ natAbs (wideValue s) < 2 ^ (62 + width) ⌝ }
@@ -26,47 +38,18 @@ fn parts(width: u64, s: Wide) -> Answer
     done(low_part(width, s), high_part(width, s))
 }
 
-// fx+/carry
-fn plus(width: u64, args: [i64; 4], count: u64) -> Answer
-    requires { ⌜ Accepted width 22 args count ⌝ }
-    ensures { λ r. ⌜ r ≡ outcome width 22 (counted args count) ⌝ }
-{
-    let x = args[0];
-    let y = args[1];
-    let z = args[2];
-    parts(width, add_word(add_word(widen(x), y), z))
-}
-
-// fx-/carry
-fn minus(width: u64, args: [i64; 4], count: u64) -> Answer
-    requires { ⌜ Accepted width 23 args count ⌝ }
-    ensures { λ r. ⌜ r ≡ outcome width 23 (counted args count) ⌝ }
-{
-    let x = args[0];
-    let y = args[1];
-    let z = args[2];
-    parts(width, subtract_word(subtract_word(widen(x), y), z))
-}
-
-// fx*/carry
-fn times(width: u64, args: [i64; 4], count: u64) -> Answer
-    requires { ⌜ Accepted width 24 args count ⌝ }
-    ensures { λ r. ⌜ r ≡ outcome width 24 (counted args count) ⌝ }
-{
-    let x = args[0];
-    let y = args[1];
-    let z = args[2];
-    parts(width, add_word(product(x, y), z))
-}
-
+// fx+/carry fx-/carry fx*/carry
 pub fn carry(width: u64, code: u64, args: [i64; 4], count: u64) -> Answer
     requires { ⌜ Accepted width code args count ⌝ }
     requires { ⌜ (22 ≤ code) × (code ≤ 24) ⌝ }
     ensures { λ r. ⌜ r ≡ outcome width code (counted args count) ⌝ }
 {
-    match code {
-        22 => plus(width, args, count),
-        23 => minus(width, args, count),
-        _ => times(width, args, count),
+    let x = args[0];
+    let y = args[1];
+    let z = args[2];
+    if code == 24 {
+        return parts(width, add_word(product(x, y), z));
     }
+    let minus = code == 23;
+    parts(width, add_signed(add_signed(widen(x), minus, y), minus, z))
 }

@@ -1,7 +1,6 @@
 // The tests behind refusals 1, 2, 3 and 5, which 01's tables give: width, code, argument count, domains.
 ghost use mathlib.Core.Path.{_≡_};
 ghost use mathlib.Core.Bool.{true, _&&_};
-ghost use Prim.Native.Nat.{_≤_};
 ghost use lib.IntN.{pos, _-ℤ_};
 ghost use lib.Signed.{leZ, ltZ};
 ghost use Rattle.fixnum.specs.Domains as domains;

@@ -41,12 +41,13 @@ pub fn ask(width: u64, code: u64, args: [i64; 4], count: u64) -> Answer
     ensures { λ r. ⌜ r ≡ outcome width code (counted args count) ⌝ }
 {
     let x = args[0];
+    let n = absolute(x);
     match code {
-        6 => question(absolute(x) == 0),
+        6 => question(n == 0),
         7 => question(x > 0),
         8 => question(x < 0),
-        9 => question(absolute(x) % 2 == 1),
-        _ => question(absolute(x) % 2 != 1),
+        9 => question(n % 2 == 1),
+        _ => question(n % 2 != 1),
     }
 }
 

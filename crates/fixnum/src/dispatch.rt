@@ -4,6 +4,7 @@ ghost use Prim.Native.Nat.{_≤_};
 ghost use Rattle.fixnum.specs.Calls.{Accepted, counted, outcome};
 use super::Answer;
 use super::arithmetic::arithmetic;
+use super::bit::bit;
 use super::carry::carry;
 use super::compare::ask;
 use super::compare::compare;
@@ -12,7 +13,6 @@ use super::counts::counts;
 use super::division::divide;
 use super::fields::fields;
 use super::logical::logical;
-use super::rotation::rotation;
 use super::shifts::shift;
 
 pub fn operate(width: u64, code: u64, args: [i64; 4], count: u64) -> Answer
@@ -36,11 +36,13 @@ pub fn operate(width: u64, code: u64, args: [i64; 4], count: u64) -> Answer
         logical(width, code, args, count)
     } else if code <= 32 {
         counts(width, code, args, count)
+    } else if code <= 34 {
+        bit(width, code, args, count)
     } else if code <= 36 {
         fields(width, code, args, count)
     } else if code <= 39 {
         shift(width, code, args, count)
     } else {
-        rotation(width, code, args, count)
+        fields(width, code, args, count)
     }
 }

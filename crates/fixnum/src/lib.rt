@@ -10,6 +10,7 @@ ghost use Rattle.fixnum.specs.Operations.{truth};
 ghost use Rattle.fixnum.specs.Calls as calls;
 
 mod arithmetic;
+mod bit;
 mod carry;
 mod checks;
 mod compare;
@@ -20,7 +21,6 @@ mod exact;
 mod fields;
 mod logical;
 mod loops;
-mod rotation;
 mod shifts;
 
 use checks::in_domains;

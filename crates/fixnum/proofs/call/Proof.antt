@@ -1,10 +1,10 @@
 -- `fixnum::call` meets its contract: the stages of the code are those of the answer. Assumes nothing.
 use mathlib.Core.Path.{_≡_, sym, _∙_}
-use mathlib.Core.Bool.{true, false}
+use mathlib.Core.Bool.{true}
 use borrow.Author.Tests.{not-true, not-false}
-use Rattle.fixnum.specs.Domains.{isWidth, inDomains}
-use Rattle.fixnum.specs.Table.{isCode, rowOf}
-use Rattle.fixnum.specs.Calls.{counted, isCount, allFixnums, fixnumAnswer, Accepted}
+use Rattle.fixnum.specs.Domains.{isWidth}
+use Rattle.fixnum.specs.Table.{isCode}
+use Rattle.fixnum.specs.Calls.{isCount, fixnumAnswer, Accepted}
 use Rattle.fixnum.proofs.TableLaws.{at-most-four, code-bounds}
 use Rattle.fixnum.proofs.AnswerLaws.{passed, failed, accepted}
 use borrow.Author.Needs.{needs}

@@ -2,7 +2,6 @@
 use borrow.Author.Needs.{needs}
 use mathlib.Core.Path.{_≡_, refl, _∙_}
 use mathlib.Core.Bool.{Bool, true, false}
-use lib.IntN.{pos}
 use mir.Syntax.{w64}
 use mir.Val.{boolByte, toZ}
 use Rattle.fixnum.specs.Operations.{truth}

@@ -1,31 +1,132 @@
 -- `fixnum::arithmetic::arithmetic` meets its contract. Assumes nothing.
-use mathlib.Core.Path.{_≡_, _∙_}
+use borrow.Author.Needs.{needs}
 use native.Mathlib.Omega.{arith}
-use Rattle.fixnum.proofs.DispatchLaws.{accepted-at, outcome-at}
+use mathlib.Core.Path.{_≡_, refl, ap, ap₂, _∙_}
+use lib.IntN.{pos, negℤ, _+ℤ_, _-ℤ_, _*ℤ_}
+use mir.Syntax.{w64}
+use mir.Val.{SFits}
+use Rattle.words.proofs.WordLaws.{back}
+use Rattle.words.proofs.SignedLaws.{withSign-not, rejoin}
+use Rattle.words.proofs.WideLaws.{word-room}
+use Rattle.fixnum.specs.Domains.{arg}
+use Rattle.fixnum.specs.Operations.{two}
+use Rattle.fixnum.specs.Table.{rows, rowOf}
+use Rattle.fixnum.proofs.CallLaws.{sized-cong}
+use Rattle.fixnum.proofs.DispatchLaws.{accepted-at}
+use Rattle.fixnum.proofs.MeaningLaws.{two-outcome}
+use Rattle.fixnum.proofs.ArithmeticLaws.{only-minus, two-counted, negate-outcome, minus-outcome}
 use Rattle.fixnum.proofs.arithmetic.arithmetic.Statement.{statement}
 use Rattle.fixnum.proofs.arithmetic.arithmetic.Tie as tie
 
-last : (c : tie.At-match-rest) → c .before .args .code ≡ 15
-last c = omega arith
+abbrev start : tie.After-y → tie.Start
+start c = c .before .before .before
 
-plus-requires : tie.Need-plus-requires
-plus-requires c κs = accepted-at (c .match .keys1) (c .before .pre .0)
+-- the arguments as words
+first : (c : tie.After-x) → SFits w64 (arg (c .before .args .t3) 0)
+unfolding arg
+first c = record { sfits = c .x .given }
 
-times-requires : tie.Need-times-requires
-times-requires c κs = accepted-at (c .match .keys2) (c .before .pre .0)
+second : (c : tie.After-y) → SFits w64 (arg (start c .args .t3) 1)
+unfolding arg
+second c = record { sfits = c .y .given }
 
-minus-requires : tie.Need-minus-requires
-minus-requires c κs = accepted-at (last c) (c .before .pre .0)
+array-copy-out-x : tie.Need-array-copy-out-x
+array-copy-out-x c = search needs
+
+is-negative-requires : tie.Need-is-negative-requires
+is-negative-requires c κs = search needs
+
+absolute-requires : tie.Need-absolute-requires
+absolute-requires c κs = search needs
+
+sized-requires : tie.Need-sized-requires
+sized-requires c κs = search needs
 
 returns : tie.Need-returns
-returns c = c .plus .ensures ∙ outcome-at _ _ (c .before .match .keys1)
+unfolding arg
+returns c =
+    let x = c .before .before .before .before in
+    let a = x .before in
+    let k = c .before .before .before .if1 .taken in
+    c .sized .ensures
+    ∙ sized-cong 5 (a .args .width)
+    (withSign-not _ _ ∙ ap negℤ (rejoin (first x) (c .before .before .is-negative .ensures) (c .before .absolute .ensures))) refl
+    ∙ negate-outcome _ _ (only-minus _ _ (a .pre .1) (a .pre .0 .arity) k) k
+
+array-copy-out-y : tie.Need-array-copy-out-y
+array-copy-out-y c = search needs
+
+widen-requires : tie.Need-widen-requires
+widen-requires c κs = search needs
+
+add-word-requires : tie.Need-add-word-requires
+unfolding arg
+add-word-requires c κs = let x = first (c .before .before .before .before) in word-room (c .widen .result) _ x (c .widen .ensures ∙ back x)
+
+exact-requires : tie.Need-exact-requires
+exact-requires c κs = search needs
+
+product-requires : tie.Need-product-requires
+product-requires c κs = search needs
+
+exact-requires-2 : tie.Need-exact-requires-2
+exact-requires-2 c κs = search needs
+
+widen-requires-2 : tie.Need-widen-requires-2
+widen-requires-2 c κs = search needs
+
+subtract-word-requires : tie.Need-subtract-word-requires
+unfolding arg
+subtract-word-requires c κs = let x = first (c .before .before .before .before) in word-room (c .widen2 .result) _ x (c .widen2 .ensures ∙ back x)
+
+exact-requires-3 : tie.Need-exact-requires-3
+exact-requires-3 c κs = search needs
 
 returns-2 : tie.Need-returns-2
-returns-2 c = c .times .ensures ∙ outcome-at _ _ (c .before .match .keys2)
+unfolding rows rowOf arg two
+returns-2 c =
+    let y = c .before .before .before .before in
+    c .exact .ensures
+    ∙ sized-cong 6 (start y .args .width)
+    (c .before .add-word .ensures ∙ ap₂ _+ℤ_ (c .before .before .widen .ensures ∙ back (first (y .before .before))) (back (second y))) refl
+    ∙ two-outcome (λ v x y. (x +ℤ y, pos 0)) (ap rowOf (c .before .before .before .match .keys1)) (start y .pre .0)
 
 returns-3 : tie.Need-returns-3
-returns-3 c = c .minus .ensures ∙ outcome-at _ _ (last (c .before))
+unfolding rows rowOf arg two
+returns-3 c =
+    let y = c .before .before .before in
+    c .exact2 .ensures
+    ∙ sized-cong 6 (start y .args .width) (c .before .product .ensures ∙ ap₂ _*ℤ_ (back (first (y .before .before))) (back (second y))) refl
+    ∙ two-outcome (λ v x y. (x *ℤ y, pos 0)) (ap rowOf (c .before .before .match .keys2)) (start y .pre .0)
+
+returns-4 : tie.Need-returns-4
+unfolding arg
+returns-4 c =
+    let y = c .before .before .before .before in
+    let e : start y .args .code ≡ 15 = omega arith in
+    c .exact3 .ensures
+    ∙ sized-cong 5 (start y .args .width)
+    (c .before .subtract-word .ensures ∙ ap₂ _-ℤ_ (c .before .before .widen2 .ensures ∙ back (first (y .before .before))) (back (second y))) refl
+    ∙ minus-outcome _ _ e (two-counted _ (accepted-at e (start y .pre .0) .arity) (y .before .if1 .left)) (start y .good .1 .1 .0 .1 .0 .1)
 
 pub arithmetic-spec : {M : Type 1} → statement M
 arithmetic-spec =
-    tie.close (tie.spec plus-requires times-requires minus-requires returns returns-2 returns-3)
+    tie.close
+    (tie.spec
+    array-copy-out-x
+    is-negative-requires
+    absolute-requires
+    sized-requires
+    returns
+    array-copy-out-y
+    widen-requires
+    add-word-requires
+    exact-requires
+    product-requires
+    exact-requires-2
+    widen-requires-2
+    subtract-word-requires
+    exact-requires-3
+    returns-2
+    returns-3
+    returns-4)

@@ -1,31 +1,136 @@
 -- `fixnum::carry::carry` meets its contract. Assumes nothing.
-use mathlib.Core.Path.{_≡_, _∙_}
+use borrow.Author.Needs.{needs}
 use native.Mathlib.Omega.{arith}
-use Rattle.fixnum.proofs.DispatchLaws.{accepted-at, outcome-at}
+use mathlib.Core.Path.{_≡_, sym, ap, _∙_, subst}
+use Prim.Native.Nat.{_+_, _<_, _^_}
+use lib.Dec.{eqb}
+use lib.IntN.{ℤ, natAbs, _+ℤ_, _*ℤ_}
+use mir.Syntax.{w64}
+use mir.Val.{SFits}
+use Rattle.words.specs.Wide.{wideValue}
+use Rattle.words.proofs.WordLaws.{back}
+use Rattle.words.proofs.WideLaws.{word-room, sum-room, product-room}
+use Rattle.fixnum.specs.Answers.{unless}
+use Rattle.fixnum.specs.Domains.{arg}
+use Rattle.fixnum.specs.Operations.{carry}
+use Rattle.fixnum.specs.Table.{rows, rowOf}
+use Rattle.fixnum.specs.Calls.{sized}
+use Rattle.fixnum.proofs.MeaningLaws.{three-outcome}
+use Rattle.fixnum.proofs.CarryLaws.{partsOf, signed, signedSum, natAbs-signed, sum-row, sum-size, product-size}
 use Rattle.fixnum.proofs.carry.carry.Statement.{statement}
 use Rattle.fixnum.proofs.carry.carry.Tie as tie
 
-last : (c : tie.At-match-rest) → c .before .args .code ≡ 24
-last c = omega arith
+abbrev start : tie.After-z → tie.Start
+start c = c .before .before .before
 
-plus-requires : tie.Need-plus-requires
-plus-requires c κs = accepted-at (c .match .keys1) (c .before .pre .0)
+-- the three arguments as words
+first : (c : tie.After-z) → SFits w64 (arg (start c .args .t3) 0)
+unfolding arg
+first c = record { sfits = c .before .before .x .given }
 
-minus-requires : tie.Need-minus-requires
-minus-requires c κs = accepted-at (c .match .keys2) (c .before .pre .0)
+second : (c : tie.After-z) → SFits w64 (arg (start c .args .t3) 1)
+unfolding arg
+second c = record { sfits = c .before .y .given }
 
-times-requires : tie.Need-times-requires
-times-requires c κs = accepted-at (last c) (c .before .pre .0)
+third : (c : tie.After-z) → SFits w64 (arg (start c .args .t3) 2)
+unfolding arg
+third c = record { sfits = c .z .given }
+
+-- the exact results
+product-value : (c : tie.After-product) → wideValue (c .product .result) ≡ arg (start (c .before .before) .args .t3) 0 *ℤ arg (start (c .before .before) .args .t3) 1
+unfolding arg
+product-value c = let a = c .before .before in cc (c .product .ensures, back (first a), back (second a))
+
+total : (c : tie.After-add-word)
+    → wideValue (c .add-word .result)
+    ≡ (arg (start (c .before .before .before) .args .t3) 0 *ℤ arg (start (c .before .before .before) .args .t3) 1) +ℤ arg (start (c .before .before .before) .args .t3) 2
+unfolding arg
+total c = cc (c .add-word .ensures, product-value (c .before), back (third (c .before .before .before)))
+
+abbrev at : tie.After-widen → tie.After-z
+at c = c .before .before
+
+widened : (c : tie.After-widen) → wideValue (c .widen .result) ≡ arg (start (at c) .args .t3) 0
+unfolding arg
+widened c = c .widen .ensures ∙ back (first (at c))
+
+partial-sum : (c : tie.After-add-signed)
+    → wideValue (c .add-signed .result)
+    ≡ signed (eqb (start (at (c .before)) .args .code) 23) (arg (start (at (c .before)) .args .t3) 0) (arg (start (at (c .before)) .args .t3) 1)
+unfolding arg
+partial-sum c = cc (c .add-signed .ensures, widened (c .before), back (second (at (c .before))))
+
+sum : (c : tie.After-add-signed2)
+    → wideValue (c .add-signed2 .result)
+    ≡ signedSum (start (at (c .before .before)) .args .code) (arg (start (at (c .before .before)) .args .t3) 0) (arg (start (at (c .before .before)) .args .t3) 1) (arg (start (at (c .before .before)) .args .t3) 2)
+unfolding arg
+sum c = cc (c .add-signed2 .ensures, partial-sum (c .before), back (third (at (c .before .before))))
+
+array-copy-out-x : tie.Need-array-copy-out-x
+array-copy-out-x c = search needs
+
+array-copy-out-y : tie.Need-array-copy-out-y
+array-copy-out-y c = search needs
+
+array-copy-out-z : tie.Need-array-copy-out-z
+array-copy-out-z c = search needs
+
+product-requires : tie.Need-product-requires
+product-requires c κs = search needs
+
+add-word-requires : tie.Need-add-word-requires
+add-word-requires c κs = let a = c .before .before in product-room (c .product .result) _ _ (first a) (second a) (product-value c)
+
+parts-requires : tie.Need-parts-requires
+parts-requires c κs =
+    let a = start (c .before .before .before) in
+    (a .pre .0 .width, subst (λ (s : ℤ). natAbs s < 2 ^ (62 + a .args .width)) (sym (total c)) (product-size (a .pre .1) (a .pre .0)))
 
 returns : tie.Need-returns
-returns c = c .plus .ensures ∙ outcome-at _ _ (c .before .match .keys1)
+unfolding sized unless rows rowOf carry
+returns c =
+    let a = start (c .before .before .before .before) in
+    c .parts .ensures
+    ∙ ap (λ (s : ℤ). sized 0 (a .args .width) (partsOf (a .args .width) s)) (total (c .before))
+    ∙ three-outcome (λ v x y z. partsOf v ((x *ℤ y) +ℤ z)) (ap rowOf (c .before .before .before .if1 .taken)) (a .pre .0)
+
+widen-requires : tie.Need-widen-requires
+widen-requires c κs = search needs
+
+add-signed-requires : tie.Need-add-signed-requires
+add-signed-requires c κs = word-room (c .widen .result) _ (first (at c)) (widened c)
+
+add-signed-requires-2 : tie.Need-add-signed-requires-2
+add-signed-requires-2 c κs =
+    let a = at (c .before) in
+    sum-room (c .add-signed .result) _ _ _ (first a) (second a) (natAbs-signed (eqb (start a .args .code) 23) (arg (start a .args .t3) 0) (arg (start a .args .t3) 1)) (partial-sum c)
+
+parts-requires-2 : tie.Need-parts-requires-2
+parts-requires-2 c κs =
+    let a = start (at (c .before .before)) in
+    (a .pre .0 .width, subst (λ (s : ℤ). natAbs s < 2 ^ (62 + a .args .width)) (sym (sum c)) (sum-size (a .pre .1) (a .pre .0) (eqb (a .args .code) 23)))
 
 returns-2 : tie.Need-returns-2
-returns-2 c = c .minus .ensures ∙ outcome-at _ _ (c .before .match .keys2)
-
-returns-3 : tie.Need-returns-3
-returns-3 c = c .times .ensures ∙ outcome-at _ _ (last (c .before))
+unfolding sized unless carry
+returns-2 c =
+    let a = start (at (c .before .before .before)) in
+    c .parts2 .ensures
+    ∙ ap (λ (s : ℤ). sized 0 (a .args .width) (partsOf (a .args .width) s)) (sum (c .before))
+    ∙ three-outcome (λ v x y z. partsOf v (signedSum (a .args .code) x y z)) (sum-row (a .args .code) (a .pre .1 .0) (omega arith)) (a .pre .0)
 
 pub carry-spec : {M : Type 1} → statement M
 carry-spec =
-    tie.close (tie.spec plus-requires minus-requires times-requires returns returns-2 returns-3)
+    tie.close
+    (tie.spec
+    array-copy-out-x
+    array-copy-out-y
+    array-copy-out-z
+    product-requires
+    add-word-requires
+    parts-requires
+    returns
+    widen-requires
+    add-signed-requires
+    add-signed-requires-2
+    parts-requires-2
+    returns-2)

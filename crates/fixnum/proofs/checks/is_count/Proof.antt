@@ -1,5 +1,5 @@
 -- `fixnum::checks::is_count` meets its contract: its array holds two columns of the table. Assumes nothing.
-use Prim.Native.Nat.{ℕ, _/_, _≤_}
+use Prim.Native.Nat.{ℕ, _≤_}
 use native.Mathlib.Omega.{arith}
 use mathlib.Core.Path.{refl, sym, ap, subst, _∙_}
 use lib.Dec.{leb}

@@ -1,8 +1,8 @@
 -- `fixnum::checks::is_rotation` meets its contract. Assumes nothing.
-use mathlib.Core.Path.{_≡_, sym, ap, subst, _∙_}
-use mathlib.Core.Bool.{Bool, true, _&&_}
+use mathlib.Core.Path.{_≡_, sym, _∙_}
+use mathlib.Core.Bool.{true, _&&_}
 use lib.IntN.{ℤ, pos, _-ℤ_}
-use lib.Signed.{leZ, ltZ}
+use lib.Signed.{leZ}
 use mir.Syntax.{w64}
 use mir.Val.{SFits}
 use Rattle.words.proofs.WordLaws.{back}

@@ -1,21 +1,35 @@
 -- `fixnum::compare::extreme` meets its contract. Assumes nothing.
-use Prim.Native.Nat.{ℕ}
+use borrow.Author.Needs.{needs}
 use native.Mathlib.Omega.{arith}
-use mathlib.Core.Path.{_≡_, refl, sym, ap, subst, _∙_}
-use mathlib.Core.Bool.{true}
+use mathlib.Core.Path.{_≡_, sym, ap, _∙_}
+use mathlib.Core.List.{[]}
 use lib.IntN.{ℤ}
+use mir.Syntax.{w64}
+use mir.Val.{toZ, ofZ}
 use Rattle.words.proofs.WordLaws.{back-word}
+use Rattle.fixnum.specs.declared.loops.Fold.{Fold}
 use Rattle.fixnum.specs.declared.loops.Fold.the-variants.{Largest, Smallest}
 use Rattle.fixnum.specs.Domains.{arg}
-use Rattle.fixnum.specs.Operations.{foldFrom}
+use Rattle.fixnum.specs.Operations.{every, foldFrom, largest, smallest}
 use Rattle.fixnum.specs.Steps.{step}
-use Rattle.fixnum.specs.Calls.{counted, isCount, outcome}
-use Rattle.fixnum.proofs.CallLaws.{done-cong}
+use Rattle.fixnum.specs.Table.{row, rows, rowOf}
+use Rattle.fixnum.specs.Calls.{counted}
+use Rattle.fixnum.proofs.CallLaws.{between, arg-counted}
+use Rattle.fixnum.proofs.MeaningLaws.{arity-row}
 use Rattle.fixnum.proofs.TableLaws.{at-most-four}
-use Rattle.fixnum.proofs.CompareLaws.{largest-outcome, smallest-outcome}
-use borrow.Author.Needs.{needs}
+use Rattle.fixnum.proofs.CompareLaws.{fold-answer}
 use Rattle.fixnum.proofs.compare.extreme.Statement.{statement}
 use Rattle.fixnum.proofs.compare.extreme.Tie as tie
+
+-- the fold starts from the first argument, which is the first place
+from-first : (fold : Fold) (c : tie.After-x) → rowOf (c .before .args .code) ≡ row 1 4 [] 0 (every (λ ys. foldFrom (step fold) (arg ys 0) ys))
+    → foldFrom (step fold) (arg (counted (c .before .args .t3) (c .before .args .count)) 0) (counted (c .before .args .t3) (c .before .args .count))
+    ≡ foldFrom (step fold) (toZ w64 (ofZ w64 (arg (c .before .args .t3) 0))) (counted (c .before .args .t3) (c .before .args .count))
+unfolding arg
+from-first fold c e =
+    let a = c .before .args in
+    ap (λ (x : ℤ). foldFrom (step fold) x (counted (a .t3) (a .count)))
+    (arg-counted (a .t3) (a .count) 0 (between 1 (a .count) 4 (arity-row e (c .before .pre .0)) .0) ∙ sym (back-word (arg (a .t3) 0) (c .x .given)))
 
 array-copy-out-x : tie.Need-array-copy-out-x
 array-copy-out-x c = search needs
@@ -33,30 +47,19 @@ done-requires-2 : tie.Need-done-requires-2
 done-requires-2 c κs = search needs
 
 returns : tie.Need-returns
-unfolding arg
+unfolding rows rowOf arg step largest
 returns c =
-    let a = c .before .before .before .before in
-    let e : a .args .code ≡ 11 = c .before .before .if1 .taken in
-    c .done .ensures
-    ∙ done-cong
-    (back-word (c .before .fold-all .result) (c .before .fold-all .ok)
-    ∙ c .before .fold-all .ensures
-    ∙ ap (λ (x : ℤ). foldFrom (step Largest) x (counted (a .args .t3) (a .args .count))) (back-word (arg (a .args .t3) 0) (c .before .before .before .x .given))) refl
-    ∙ sym (largest-outcome (a .args .width) (a .args .t3) (a .args .count) (subst (λ (k : ℕ). isCount k (a .args .count) ≡ true) e (a .pre .0 .arity)))
-    ∙ ap (λ (k : ℕ). outcome (a .args .width) k (counted (a .args .t3) (a .args .count))) (sym e)
+    let x = c .before .before .before in
+    let e = ap rowOf (c .before .before .if1 .taken) in
+    fold-answer largest Largest _ _ _ _ e (from-first Largest x e) (c .done .ensures) (c .before .fold-all .ok) (c .before .fold-all .ensures)
 
 returns-2 : tie.Need-returns-2
-unfolding arg
+unfolding rows rowOf arg step smallest
 returns-2 c =
-    let a = c .before .before .before .before in
-    let e : a .args .code ≡ 12 = omega arith in
-    c .done2 .ensures
-    ∙ done-cong
-    (back-word (c .before .fold-all2 .result) (c .before .fold-all2 .ok)
-    ∙ c .before .fold-all2 .ensures
-    ∙ ap (λ (x : ℤ). foldFrom (step Smallest) x (counted (a .args .t3) (a .args .count))) (back-word (arg (a .args .t3) 0) (c .before .before .before .x .given))) refl
-    ∙ sym (smallest-outcome (a .args .width) (a .args .t3) (a .args .count) (subst (λ (k : ℕ). isCount k (a .args .count) ≡ true) e (a .pre .0 .arity)))
-    ∙ ap (λ (k : ℕ). outcome (a .args .width) k (counted (a .args .t3) (a .args .count))) (sym e)
+    let x = c .before .before .before in
+    let k : x .before .args .code ≡ 12 = omega arith in
+    let e = ap rowOf k in
+    fold-answer smallest Smallest _ _ _ _ e (from-first Smallest x e) (c .done2 .ensures) (c .before .fold-all2 .ok) (c .before .fold-all2 .ensures)
 
 pub extreme-spec : {M : Type 1} → statement M
 extreme-spec =

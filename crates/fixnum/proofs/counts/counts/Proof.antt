@@ -1,30 +1,33 @@
 -- `fixnum::counts::counts` meets its contract. Assumes nothing.
 use borrow.Author.Needs.{needs}
 use native.Mathlib.Omega.{arith}
-use mathlib.Core.Path.{_≡_, sym, ap, _∙_}
+use mathlib.Core.Path.{_≡_, ap, _∙_}
 use mathlib.Core.List.{List, []}
-use Prim.Native.Nat.{ℕ}
+use Prim.Native.Nat.{ℕ, _<_, _^_}
 use lib.IntN.{ℤ, pos}
+use lib.Signed.{mag}
 use mir.Syntax.{w64}
 use mir.Val.{SFits, toZ, ofZ}
 use Rattle.bits.specs.Testbit.{bitLength}
 use Rattle.bits.specs.Count.{bitCount, firstBitSet}
 use Rattle.words.proofs.WordLaws.{back}
 use Rattle.fixnum.specs.declared.Answer.{Answer}
-use Rattle.fixnum.specs.Answers.{done}
+use Rattle.fixnum.specs.Answers.{done, unless}
 use Rattle.fixnum.specs.Domains.{arg}
 use Rattle.fixnum.specs.Operations.{one}
 use Rattle.fixnum.specs.Table.{rows, row, rowOf}
-use Rattle.fixnum.specs.Calls.{Accepted, counted, outcome}
+use Rattle.fixnum.specs.Calls.{Accepted, counted, sized, outcome}
+use Rattle.fixnum.proofs.CallLaws.{done-word}
 use Rattle.fixnum.proofs.MeaningLaws.{one-outcome}
 use Rattle.fixnum.proofs.counts.counts.Statement.{statement}
 use Rattle.fixnum.proofs.counts.counts.Tie as tie
 
 -- a count of the first argument's bits, as the answer of its code
 answer : (f : ℤ → ℤ) {w code n : ℕ} {xs : List ℤ} {r : Answer} {y : ℤ} → r ≡ done (toZ w64 (ofZ w64 y)) (pos 0)
-    → y ≡ f (toZ w64 (ofZ w64 (arg xs 0))) → SFits w64 y → SFits w64 (arg xs 0) → rowOf code ≡ row 1 1 [] 0 (one f) → Accepted w code xs n
+    → y ≡ f (toZ w64 (ofZ w64 (arg xs 0))) → mag y < 2 ^ 63 → SFits w64 (arg xs 0) → rowOf code ≡ row 1 1 [] 0 (one f) → Accepted w code xs n
     → r ≡ outcome w code (counted xs n)
-answer f d e h k o a = d ∙ ap (λ (z : ℤ). done z (pos 0)) (back h ∙ e ∙ ap f (back k)) ∙ sym (one-outcome f o a)
+unfolding sized unless one
+answer f d e h k o a = done-word d h (e ∙ ap f (back k)) ∙ one-outcome (λ v x. (f x, pos 0)) o a
 
 array-copy-out-x : tie.Need-array-copy-out-x
 array-copy-out-x c = search needs
@@ -51,14 +54,14 @@ returns : tie.Need-returns
 unfolding rows rowOf arg
 returns c =
     let x = c .before .before .before in
-    answer bitCount (c .done .ensures) (c .before .bit-count .ensures) (record { sfits = c .before .bit-count .ok })
+    answer bitCount (c .done .ensures) (c .before .bit-count .ensures) (c .before .bit-count .ok)
     (record { sfits = x .x .given }) (ap rowOf (c .before .before .match .keys1)) (x .before .pre .0)
 
 returns-2 : tie.Need-returns-2
 unfolding rows rowOf arg
 returns-2 c =
     let x = c .before .before .before in
-    answer (λ z. pos (bitLength z)) (c .done2 .ensures) (c .before .length .ensures) (record { sfits = c .before .length .ok })
+    answer (λ z. pos (bitLength z)) (c .done2 .ensures) (c .before .length .ensures) (c .before .length .ok)
     (record { sfits = x .x .given }) (ap rowOf (c .before .before .match .keys2)) (x .before .pre .0)
 
 returns-3 : tie.Need-returns-3
@@ -67,7 +70,7 @@ returns-3 c =
     let x = c .before .before .before in
     let rest = c .before .before .match .rest in
     let last : x .before .args .code ≡ 32 = omega (arith, rest .1, rest .0 .1, x .before .pre .1) in
-    answer firstBitSet (c .done3 .ensures) (c .before .first-bit-set .ensures) (record { sfits = c .before .first-bit-set .ok })
+    answer firstBitSet (c .done3 .ensures) (c .before .first-bit-set .ensures) (c .before .first-bit-set .ok)
     (record { sfits = x .x .given }) (ap rowOf last) (x .before .pre .0)
 
 pub counts-spec : {M : Type 1} → statement M

@@ -9,9 +9,12 @@ use Rattle.bits.specs.Sign.{withSign}
 use Rattle.words.proofs.WordLaws.{back}
 use Rattle.fixnum.specs.Answers.{unless}
 use Rattle.fixnum.specs.Domains.{arg}
+use Rattle.fixnum.specs.Operations.{pair}
 use Rattle.fixnum.specs.Calls.{sized}
-use Rattle.fixnum.proofs.MeaningLaws.{pair-answer, divisor-positive}
-use Rattle.fixnum.proofs.DivisionRows.{quotientOf, remainderOf, division-row, quotient-row, remainder-row, both-row, both-code}
+use Rattle.fixnum.proofs.CallLaws.{done-cong, sized-cong}
+use Rattle.fixnum.proofs.MeaningLaws.{two-outcome}
+use Rattle.fixnum.proofs.PlaceLaws.{divisor-positive}
+use Rattle.fixnum.proofs.DivisionRows.{quotientOf, remainderOf, division-domains, quotient-row, remainder-row, both-row, both-code}
 use Rattle.fixnum.proofs.division.divide.Statement.{statement}
 use Rattle.fixnum.proofs.division.divide.Tie as tie
 
@@ -46,7 +49,7 @@ unfolding arg
 divide-requires c κs =
     let a = c .before .before in
     subst (λ (y : ℤ). 0 < natAbs y) {x = arg (a .args .t3) 1} (sym (back (record { sfits = c .y .given })))
-    (divisor-positive (division-row (a .args .code) (a .pre .1)) (a .pre .0))
+    (divisor-positive (a .pre .0) (division-domains (a .args .code) (a .pre .1)))
 
 from-absolute-requires : tie.Need-from-absolute-requires
 from-absolute-requires c κs = search needs
@@ -61,28 +64,33 @@ sized-requires-2 : tie.Need-sized-requires-2
 sized-requires-2 c κs = search needs
 
 returns : tie.Need-returns
+unfolding pair
 returns c =
     let m = c .before .before in
     let a = m .before .before .before .before in
-    pair-answer (quotientOf (a .args .code)) (λ x y. pos 0) (quotient-row (c .before .match .keys1)) (a .pre .0)
-    (c .sized .ensures) (quotient-is (m .before)) refl
+    c .sized .ensures
+    ∙ sized-cong 6 (a .args .width) (quotient-is (m .before)) refl
+    ∙ two-outcome (λ v x y. (quotientOf (a .args .code) x y, pos 0)) (quotient-row (c .before .match .keys1)) (a .pre .0)
 
 returns-2 : tie.Need-returns-2
-unfolding sized unless
+unfolding sized unless pair
 returns-2 c =
     let m = c .before .before in
     let a = m .before .before .before .before in
-    pair-answer (remainderOf (a .args .code)) (λ x y. pos 0) (remainder-row (c .before .match .keys2)) (a .pre .0)
-    (c .done .ensures) (remainder-is m) refl
+    c .done .ensures
+    ∙ done-cong (remainder-is m) refl
+    ∙ two-outcome (λ v x y. (remainderOf (a .args .code) x y, pos 0)) (remainder-row (c .before .match .keys2)) (a .pre .0)
 
 returns-3 : tie.Need-returns-3
+unfolding pair
 returns-3 c =
     let m = c .before .before in
     let a = m .before .before .before .before in
     let rest = c .before .match .rest in
-    pair-answer (quotientOf (a .args .code)) (remainderOf (a .args .code))
+    c .sized2 .ensures
+    ∙ sized-cong 6 (a .args .width) (quotient-is (m .before)) (remainder-is m)
+    ∙ two-outcome (λ v x y. (quotientOf (a .args .code) x y, remainderOf (a .args .code) x y))
     (both-row (both-code (a .args .code) (a .pre .1) (rest .0 .1) (rest .1))) (a .pre .0)
-    (c .sized2 .ensures) (quotient-is (m .before)) (remainder-is m)
 
 pub divide-spec : {M : Type 1} → statement M
 divide-spec =

@@ -1,12 +1,15 @@
 -- `fixnum::logical::choose` meets its contract. Assumes nothing.
 use borrow.Author.Needs.{needs}
-use mathlib.Core.Path.{refl, sym, ap, ap₂, _∙_}
-use lib.IntN.{ℤ, pos}
+use mathlib.Core.Path.{refl, ap₂, _∙_}
+use lib.IntN.{pos}
 use Rattle.bits.specs.Logical.{bitwiseAnd, bitwiseIor, bitwiseIf}
 use Rattle.words.proofs.WordLaws.{back, not-word}
-use Rattle.fixnum.specs.Answers.{done}
+use Rattle.fixnum.specs.Answers.{unless}
 use Rattle.fixnum.specs.Domains.{arg}
+use Rattle.fixnum.specs.Operations.{three}
 use Rattle.fixnum.specs.Table.{rows, rowOf}
+use Rattle.fixnum.specs.Calls.{sized}
+use Rattle.fixnum.proofs.CallLaws.{done-word}
 use Rattle.fixnum.proofs.MeaningLaws.{three-outcome}
 use Rattle.fixnum.proofs.logical.choose.Statement.{statement}
 use Rattle.fixnum.proofs.logical.choose.Tie as tie
@@ -33,13 +36,11 @@ done-requires : tie.Need-done-requires
 done-requires c κs = search needs
 
 returns : tie.Need-returns
-unfolding rows rowOf arg bitwiseIf
+unfolding sized unless rows rowOf arg three bitwiseIf
 returns c =
     let z = c .before .before .before .before in
-    c .done .ensures
-    ∙ ap (λ (r : ℤ). done r (pos 0))
-    (back (record { sfits = c .before .ior .ok })
-    ∙ c .before .ior .ensures
+    done-word (c .done .ensures) (c .before .ior .ok)
+    (c .before .ior .ensures
     ∙ ap₂ bitwiseIor
     (back (record { sfits = c .before .before .before .and .ok })
     ∙ c .before .before .before .and .ensures
@@ -47,7 +48,7 @@ returns c =
     (back (record { sfits = c .before .before .and2 .ok })
     ∙ c .before .before .and2 .ensures
     ∙ ap₂ bitwiseAnd (not-word (record { sfits = z .before .before .x .given })) (back (record { sfits = z .z .given }))))
-    ∙ sym (three-outcome bitwiseIf refl (z .before .before .before .pre))
+    ∙ three-outcome (λ v x y z. (bitwiseIf x y z, pos 0)) refl (z .before .before .before .pre)
 
 pub choose-spec : {M : Type 1} → statement M
 choose-spec =

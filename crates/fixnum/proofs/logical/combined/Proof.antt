@@ -1,13 +1,16 @@
 -- `fixnum::logical::combined` meets its contract. Assumes nothing.
-use Prim.Native.Nat.{ℕ}
-use native.Mathlib.Omega.{arith}
-use mathlib.Core.Path.{_≡_, refl, sym, ap, _∙_}
-use Rattle.words.proofs.WordLaws.{back-word}
-use Rattle.fixnum.specs.Calls.{counted, outcome}
-use Rattle.fixnum.proofs.CallLaws.{done-cong}
-use Rattle.fixnum.proofs.TableLaws.{at-most-four}
-use Rattle.fixnum.proofs.CompareLaws.{and-outcome, ior-outcome, xor-outcome}
 use borrow.Author.Needs.{needs}
+use native.Mathlib.Omega.{arith}
+use mathlib.Core.Path.{_≡_, ap}
+use mathlib.Core.Bool.{_&&_, _||_, xor}
+use lib.IntN.{pos, negsuc}
+use Rattle.bits.specs.Testbit.{fill}
+use Rattle.bits.specs.Logical.{bitwiseAnd, bitwiseIor, bitwiseXor, bitwiseAll, bitwiseAnds, bitwiseIors, bitwiseXors}
+use Rattle.fixnum.specs.declared.loops.Fold.the-variants.{And, Ior, Xor}
+use Rattle.fixnum.specs.Steps.{step}
+use Rattle.fixnum.specs.Table.{rows, rowOf}
+use Rattle.fixnum.proofs.TableLaws.{at-most-four}
+use Rattle.fixnum.proofs.CompareLaws.{from-fold, fold-answer}
 use Rattle.fixnum.proofs.logical.combined.Statement.{statement}
 use Rattle.fixnum.proofs.logical.combined.Tie as tie
 
@@ -30,31 +33,20 @@ done-requires-3 : tie.Need-done-requires-3
 done-requires-3 c κs = search needs
 
 returns : tie.Need-returns
+unfolding rows rowOf step bitwiseAnds bitwiseAll fill bitwiseAnd
 returns c =
-    let a = c .before .before .before in
-    let e : a .args .code ≡ 26 = c .before .before .match .keys1 in
-    c .done .ensures
-    ∙ done-cong (back-word (c .before .fold-all .result) (c .before .fold-all .ok) ∙ c .before .fold-all .ensures) refl
-    ∙ sym (and-outcome (a .args .width) (counted (a .args .args) (a .args .count)))
-    ∙ ap (λ (k : ℕ). outcome (a .args .width) k (counted (a .args .args) (a .args .count))) (sym e)
+    fold-answer bitwiseAnds And (negsuc 0) _ _ _ (ap rowOf (c .before .before .match .keys1)) (from-fold _&&_ (negsuc 0) _) (c .done .ensures) (c .before .fold-all .ok) (c .before .fold-all .ensures)
 
 returns-2 : tie.Need-returns-2
+unfolding rows rowOf step bitwiseIors bitwiseAll fill bitwiseIor
 returns-2 c =
-    let a = c .before .before .before in
-    let e : a .args .code ≡ 27 = c .before .before .match .keys2 in
-    c .done2 .ensures
-    ∙ done-cong (back-word (c .before .fold-all2 .result) (c .before .fold-all2 .ok) ∙ c .before .fold-all2 .ensures) refl
-    ∙ sym (ior-outcome (a .args .width) (counted (a .args .args) (a .args .count)))
-    ∙ ap (λ (k : ℕ). outcome (a .args .width) k (counted (a .args .args) (a .args .count))) (sym e)
+    fold-answer bitwiseIors Ior (pos 0) _ _ _ (ap rowOf (c .before .before .match .keys2)) (from-fold _||_ (pos 0) _) (c .done2 .ensures) (c .before .fold-all2 .ok) (c .before .fold-all2 .ensures)
 
 returns-3 : tie.Need-returns-3
+unfolding rows rowOf step bitwiseXors bitwiseAll fill bitwiseXor
 returns-3 c =
-    let a = c .before .before .before in
-    let e : a .args .code ≡ 28 = omega arith in
-    c .done3 .ensures
-    ∙ done-cong (back-word (c .before .fold-all3 .result) (c .before .fold-all3 .ok) ∙ c .before .fold-all3 .ensures) refl
-    ∙ sym (xor-outcome (a .args .width) (counted (a .args .args) (a .args .count)))
-    ∙ ap (λ (k : ℕ). outcome (a .args .width) k (counted (a .args .args) (a .args .count))) (sym e)
+    let e : c .before .before .before .args .code ≡ 28 = omega arith in
+    fold-answer bitwiseXors Xor (pos 0) _ _ _ (ap rowOf e) (from-fold xor (pos 0) _) (c .done3 .ensures) (c .before .fold-all3 .ok) (c .before .fold-all3 .ensures)
 
 pub combined-spec : {M : Type 1} → statement M
 combined-spec =

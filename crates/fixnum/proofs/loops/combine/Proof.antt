@@ -1,10 +1,10 @@
 -- `fixnum::loops::combine` meets its contract. Assumes nothing.
+use Prim.Native.Nat.{_<_, _^_}
 use mathlib.Core.Path.{_≡_, sym, ap, _∙_}
-use mathlib.Core.Bool.{Bool, cond}
 use lib.IntN.{ℤ}
-use lib.Signed.{ltZ}
+use lib.Signed.{mag}
 use mir.Syntax.{w64}
-use mir.Val.{SFits, toZ, ofZ}
+use mir.Val.{toZ, ofZ}
 use Rattle.words.proofs.WordLaws.{back, back-word}
 use Rattle.fixnum.specs.declared.loops.Fold.{Fold}
 use Rattle.fixnum.specs.Operations.{larger, smaller}
@@ -37,63 +37,46 @@ enum-told-5 c = search needs
 xor-requires : tie.Need-xor-requires
 xor-requires c κs = search needs
 
--- the fold that an arm of the match stands for
-arm : (x y : ℤ) {f g : Fold} → f ≡ g → step g x y ≡ step f x y
-arm x y e = ap (λ (f : Fold). step f x y) (sym e)
-
--- a choice by the machine's test x < y
-choice : {x y : ℤ} (a b : ℤ) {t : Bool} → SFits w64 x → SFits w64 y → ltZ (toZ w64 (ofZ w64 x)) (toZ w64 (ofZ w64 y)) ≡ t
-    → cond t a b ≡ cond (ltZ x y) a b
-choice a b h k e = ap (λ (t : Bool). cond t a b) (sym (rw (back h, back k) at e))
+-- a word that is the step of an arm of the match
+answer : (c : tie.Start) (z : ℤ) {fold : Fold} → c .args .fold ≡ fold → mag z < 2 ^ 63
+    → z ≡ step fold (toZ w64 (ofZ w64 (c .args .x))) (toZ w64 (ofZ w64 (c .args .y))) → toZ w64 (ofZ w64 z) ≡ step (c .args .fold) (c .args .x) (c .args .y)
+answer c z e h p = back-word z h ∙ (rw (back (c .fits .x), back (c .fits .y)) at p) ∙ ap (λ (f : Fold). step f (c .args .x) (c .args .y)) (sym e)
 
 returns : tie.Need-returns
 unfolding step larger
 returns c =
-    back (c .before .before .before .fits .y)
-    ∙ choice {x = c .before .before .before .args .x} (c .before .before .before .args .y) (c .before .before .before .args .x) (c .before .before .before .fits .x) (c .before .before .before .fits .y) (c .if1 .taken)
-    ∙ arm _ _ (c .before .enum-told .given .1)
+    let a = c .before .before .before in
+    answer a (a .args .y) (c .before .enum-told .given .1) (a .fits .y .sfits) (rw (c .if1 .taken) (sym (back (a .fits .y))))
 
 returns-2 : tie.Need-returns-2
 unfolding step larger
 returns-2 c =
-    back (c .before .before .before .fits .x)
-    ∙ choice {x = c .before .before .before .args .x} (c .before .before .before .args .y) (c .before .before .before .args .x) (c .before .before .before .fits .x) (c .before .before .before .fits .y) (c .if1 .left)
-    ∙ arm _ _ (c .before .enum-told .given .1)
+    let a = c .before .before .before in
+    answer a (a .args .x) (c .before .enum-told .given .1) (a .fits .x .sfits) (rw (c .if1 .left) (sym (back (a .fits .x))))
 
 returns-3 : tie.Need-returns-3
 unfolding step smaller
 returns-3 c =
-    back (c .before .before .before .fits .y)
-    ∙ choice {x = c .before .before .before .args .y} (c .before .before .before .args .y) (c .before .before .before .args .x) (c .before .before .before .fits .y) (c .before .before .before .fits .x) (c .if2 .taken)
-    ∙ arm _ _ (c .before .enum-told2 .given .1)
+    let a = c .before .before .before in
+    answer a (a .args .y) (c .before .enum-told2 .given .1) (a .fits .y .sfits) (rw (c .if2 .taken) (sym (back (a .fits .y))))
 
 returns-4 : tie.Need-returns-4
 unfolding step smaller
 returns-4 c =
-    back (c .before .before .before .fits .x)
-    ∙ choice {x = c .before .before .before .args .y} (c .before .before .before .args .y) (c .before .before .before .args .x) (c .before .before .before .fits .y) (c .before .before .before .fits .x) (c .if2 .left)
-    ∙ arm _ _ (c .before .enum-told2 .given .1)
+    let a = c .before .before .before in
+    answer a (a .args .x) (c .before .enum-told2 .given .1) (a .fits .x .sfits) (rw (c .if2 .left) (sym (back (a .fits .x))))
 
 returns-5 : tie.Need-returns-5
 unfolding step
-returns-5 c =
-    back-word (c .and .result) (c .and .ok)
-    ∙ (rw (back (c .before .before .before .fits .x), back (c .before .before .before .fits .y)) at (c .and .ensures))
-    ∙ arm _ _ (c .before .enum-told3 .given .1)
+returns-5 c = answer (c .before .before .before) (c .and .result) (c .before .enum-told3 .given .1) (c .and .ok) (c .and .ensures)
 
 returns-6 : tie.Need-returns-6
 unfolding step
-returns-6 c =
-    back-word (c .ior .result) (c .ior .ok)
-    ∙ (rw (back (c .before .before .before .fits .x), back (c .before .before .before .fits .y)) at (c .ior .ensures))
-    ∙ arm _ _ (c .before .enum-told4 .given .1)
+returns-6 c = answer (c .before .before .before) (c .ior .result) (c .before .enum-told4 .given .1) (c .ior .ok) (c .ior .ensures)
 
 returns-7 : tie.Need-returns-7
 unfolding step
-returns-7 c =
-    back-word (c .xor .result) (c .xor .ok)
-    ∙ (rw (back (c .before .before .before .fits .x), back (c .before .before .before .fits .y)) at (c .xor .ensures))
-    ∙ arm _ _ (c .before .enum-told5 .given .1)
+returns-7 c = answer (c .before .before .before) (c .xor .result) (c .before .enum-told5 .given .1) (c .xor .ok) (c .xor .ensures)
 
 pub combine-spec : {M : Type 1} → statement M
 combine-spec =
