@@ -4,16 +4,20 @@ use native.Mathlib.Nat.{le-refl, le-antisymm}
 use native.Mathlib.Numerals.{add-one}
 use native.Mathlib.Omega.{arith}
 use mathlib.Core.Path.{_≡_, refl, sym, ap, _∙_, subst}
-use mathlib.Core.List.{List, [], _∷_, _++_, append-assoc}
+use mathlib.Core.List.{List, [], _∷_, _++_, append-assoc, append-nil}
+use mathlib.Core.Bool.{true}
+use lib.Dec.{leb}
 use lib.IntN.{ℤ}
-use lib.ListN.{length, drop, set, getD, length-set}
-use lib.Seq.{drop-cons, drop-drop, set-at}
+use lib.ListN.{length, take, drop, set, getD, length-set, length-drop}
+use lib.Seq.{drop-cons, drop-drop, take-all, set-at}
 use Rattle.bits.specs.Shift.{shiftRight}
 use Rattle.bits.specs.Division.{modℕ}
 use Rattle.bits.proofs.ShiftLaws.{shiftRight-zero, shiftRight-compose}
-use Rattle.limbs.specs.Value.{bitsFrom, limbsOf}
-use Rattle.limbs.specs.Buffer.{Begun, Continues}
-use Rattle.limbs.proofs.ValueLaws.{length-limbsOf}
+use borrow.Author.Tests.{le-leb, lt-leb}
+use borrow.Rule.Slice.PartMut.{putMid}
+use Rattle.limbs.specs.Value.{bitsFrom, limbsOf, limbCount, shortest}
+use Rattle.limbs.specs.Buffer.{Begun, Continues, integer, room, laid, fitsIn, refusal, written, afterwards}
+use Rattle.limbs.proofs.ValueLaws.{length-limbsOf, length-shortest}
 
 -- one limb more
 pub limbsOf-snoc : (i : ℕ) (z : ℤ) → limbsOf (suc i) z ≡ limbsOf i z ++ (bitsFrom z (32 * i) ∷ [])
@@ -73,3 +77,47 @@ turn-more {part} {j = j} v t e h k = record {
 
 pub turn-all : {z : ℤ} {first part : List ℕ} {from to j : ℕ} → Turn z first part from to j → to ≤ j → Continues z first part from to
 turn-all {z} {first} {part} {from} t h = subst (λ (k : ℕ). Continues z first part from k) (le-antisymm (t .high) h) (t .so-far)
+
+-- ---- the answer of a call that has its integer
+
+drop-all : (n : ℕ) (l : List ℕ) → length l ≤ n → drop n l ≡ []
+drop-all zero [] h = refl
+drop-all zero (x ∷ l) h = absurd (omega arith)
+drop-all (suc n) [] h = refl
+drop-all (suc n) (x ∷ l) h = drop-all n l (omega arith)
+
+module _ (z : ℤ) (out : List ℕ) (first n : ℕ) (counted : n ≡ limbCount z) where
+  -- no room: nothing is written
+  pub no-room : length out - first < n → (written (integer z) out first ≡ refusal 8) × (afterwards (integer z) out first ≡ out)
+  unfolding written afterwards fitsIn room
+  no-room h =
+      let no = lt-leb (length (shortest z)) (length out - first) (omega (arith, length-shortest z)) in
+      (rw no, rw no)
+
+  -- room: the part that was lent has come back with the limbs in it
+  module _ (part : List ℕ) (f : first ≤ length out) (h : n ≤ length out - first) (w : Begun z (take (length out - first) (drop first out)) part n) where
+    yes : leb (length (shortest z)) (length out - first) ≡ true
+    yes = le-leb (length (shortest z)) (length out - first) (omega (arith, length-shortest z))
+
+    whole : take (length out - first) (drop first out) ≡ drop first out
+    whole = take-all (length out - first) (drop first out) (omega (arith, length-drop first out))
+
+    limbs-part : part ≡ shortest z ++ drop (first + length (shortest z)) out
+    unfolding shortest
+    limbs-part =
+        w .limbs
+        ∙ ap (λ (l : List ℕ). limbsOf n z ++ drop n l) whole
+        ∙ ap (λ (l : List ℕ). limbsOf n z ++ l) (drop-drop n first out)
+        ∙ ap (λ (k : ℕ). limbsOf k z ++ drop (first + k) out) counted
+        ∙ ap (λ (k : ℕ). limbsOf (limbCount z) z ++ drop (first + k) out) (sym (length-limbsOf (limbCount z) z))
+
+    pub laid-answer : record { refusal = 0; length = n } ≡ written (integer z) out first
+    unfolding written fitsIn room
+    laid-answer = rw yes (ap (λ (k : ℕ). record { refusal = 0; length = k }) (counted ∙ sym (length-shortest z)))
+
+    pub laid-buffer : putMid first (length out - first) out part ≡ afterwards (integer z) out first
+    unfolding afterwards fitsIn room laid
+    laid-buffer =
+        rw yes
+        (ap (λ (l : List ℕ). take first out ++ (part ++ l)) (drop-all (length out - first) (drop first out) (omega (arith, length-drop first out)))
+        ∙ ap (λ (l : List ℕ). take first out ++ l) (append-nil part ∙ limbs-part))

@@ -138,6 +138,10 @@ limbsOf-value (n ∷ m ∷ ms) b =
 
 -- ---- the shortest limbs
 
+pub limbCount-positive : (z : ℤ) → 0 < limbCount z
+unfolding limbCount
+limbCount-positive z = omega arith
+
 pub length-shortest : (z : ℤ) → length (shortest z) ≡ limbCount z
 unfolding shortest
 length-shortest z = length-limbsOf (limbCount z) z

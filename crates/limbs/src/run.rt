@@ -6,7 +6,6 @@ ghost use Rattle.bits.specs.Testbit.{bitLength};
 ghost use Rattle.limbs.specs.Value.{value};
 ghost use Rattle.limbs.specs.Buffer.{Continues, Writes, integer, refusal};
 ghost use Rattle.limbs.specs.Results.{meaning};
-
 use super::Written;
 use super::logical::write_if;
 use super::logical::write_logical;
@@ -29,9 +28,7 @@ fn write(operation: Operation, x: &[u32], y: &[u32], z: &[u32], n: usize, part: 
     requires { ⌜ 0 < length (now y) ⌝ }
     requires { ⌜ 0 < length (now z) ⌝ }
     requires { ⌜ n ≤ length (now part) ⌝ }
-    ensures {
-        λ r. ⌜ Continues (meaning operation (value (now (x .entry))) (value (now (y .entry))) (value (now (z .entry)))) (now (part .entry)) (now (part .exit)) 0 n ⌝
-    }
+    ensures { λ r. ⌜ Continues (meaning operation (value (now (x .entry))) (value (now (y .entry))) (value (now (z .entry)))) (now (part .entry)) (now (part .exit)) 0 n ⌝ }
 {
     match operation {
         Operation::Not => write_not(x, 0, n, part),
@@ -40,15 +37,21 @@ fn write(operation: Operation, x: &[u32], y: &[u32], z: &[u32], n: usize, part: 
     }
 }
 
-pub fn run(operation: Operation, x: &[u32], y: &[u32], z: &[u32], enough: usize, out: &mut [u32], first: u64) -> Written
+pub fn run(
+    operation: Operation,
+    x: &[u32],
+    y: &[u32],
+    z: &[u32],
+    enough: usize,
+    out: &mut [u32],
+    first: u64,
+) -> Written
     requires { ⌜ 0 < length (now x) ⌝ }
     requires { ⌜ 0 < length (now y) ⌝ }
     requires { ⌜ 0 < length (now z) ⌝ }
     requires { ⌜ 0 < enough ⌝ }
     requires { ⌜ bitLength (meaning operation (value (now x)) (value (now y)) (value (now z))) < 32 * enough ⌝ }
-    ensures {
-        λ r. ⌜ Writes (integer (meaning operation (value (now (x .entry))) (value (now (y .entry))) (value (now (z .entry))))) (now (out .entry)) first r (now (out .exit)) ⌝
-    }
+    ensures { λ r. ⌜ Writes (integer (meaning operation (value (now (x .entry))) (value (now (y .entry))) (value (now (z .entry))))) (now (out .entry)) first r (now (out .exit)) ⌝ }
 {
     let n = measure(operation, x, y, z, enough);
     let at = first as usize;

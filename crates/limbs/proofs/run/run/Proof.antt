@@ -1,63 +1,72 @@
+-- `limbs::run::run` meets its contract. Assumes nothing.
+use native.Mathlib.Omega.{arith}
+use mathlib.Core.Path.{sym, _∙_}
+use lib.IntN.{ℤ}
+use Rattle.limbs.specs.Value.{value}
+use Rattle.limbs.specs.Results.{meaning}
+use Rattle.limbs.proofs.ValueLaws.{limbCount-positive}
+use Rattle.limbs.proofs.BufferLaws.{begun-none, no-room, laid-answer, laid-buffer}
 use borrow.Author.Needs.{needs}
 use Rattle.limbs.proofs.run.run.Statement.{statement}
 use Rattle.limbs.proofs.run.run.Tie as tie
-use Rattle.limbs.proofs.run.run.Reads as reads
-use Rattle.limbs.proofs.run.run.Lts as lts
-use Rattle.limbs.proofs.measure.measure.Reads as measure-reads
-use Rattle.limbs.proofs.run.refuse.Reads as refuse-reads
-use Rattle.limbs.proofs.run.write.Reads as write-reads
 
--- src/run.rt:53:9
+-- the integer that is written
+abbrev result : tie.Start → ℤ
+result a = meaning (a .args .operation) (value (a .args .x .now)) (value (a .args .y .now)) (value (a .args .z .now))
+
 measure-requires : tie.Need-measure-requires
 measure-requires c κs = search needs
 
--- src/run.rt:56:9
 refuse-requires : tie.Need-refuse-requires
 refuse-requires c κs = search needs
 
--- src/run.rt:56:9
 returns : tie.Need-returns
-returns c = ?
+returns c =
+    let a = c .before .before .before .before .before .before .before in
+    let n = c .before .before .measure in
+    let l = no-room _ (a .args .out .now) (a .args .first) (n .result) (n .ensures) (omega (arith, n .ensures, limbCount-positive (result a))) in
+    record { answer = c .refuse .ensures ∙ sym (l .0); buffer = sym (l .1) }
 
--- src/run.rt:58:8
 sub-if2 : tie.Need-sub-if2
 sub-if2 c = search needs
 
--- src/run.rt:59:9
 refuse-requires-2 : tie.Need-refuse-requires-2
 refuse-requires-2 c κs = search needs
 
--- src/run.rt:59:9
 returns-2 : tie.Need-returns-2
-returns-2 c = ?
+returns-2 c =
+    let a = c .before .before .before .before .before .before .before .before in
+    let n = c .before .before .before .measure in
+    let l = no-room _ (a .args .out .now) (a .args .first) (n .result) (n .ensures) (omega arith) in
+    record { answer = c .refuse2 .ensures ∙ sym (l .0); buffer = sym (l .1) }
 
--- src/run.rt:61:34
 mul-write : tie.Need-mul-write
 mul-write c = search needs
 
--- src/run.rt:61:34
 sub-write : tie.Need-sub-write
 sub-write c = search needs
 
--- src/run.rt:61:34
 part-write-start : tie.Need-part-write-start
 part-write-start c = search needs
 
--- src/run.rt:61:34
 part-write-end : tie.Need-part-write-end
 part-write-end c = search needs
 
--- src/run.rt:61:5
 write-requires : tie.Need-write-requires
 write-requires c κs = search needs
 
--- src/run.rt:43:1
 same-length : tie.Need-same-length
 same-length c = search needs
 
--- src/run.rt:43:1
 returns-3 : tie.Need-returns-3
-returns-3 c = ?
+returns-3 c =
+    let a = c .before .before .before .before .before .before in
+    let n = a .measure in
+    let w = c .before .before .write .ensures _ (begun-none _ _) in
+    record {
+      answer = laid-answer _ _ _ (n .result) (n .ensures) _ (omega arith) (omega arith) w;
+      buffer = laid-buffer _ _ _ (n .result) (n .ensures) _ (omega arith) (omega arith) w;
+    }
 
 pub run-spec : {M : Type 1} → statement M
 run-spec =
