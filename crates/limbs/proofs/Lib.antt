@@ -3,4 +3,5 @@ pub mod LimbLaws
 pub mod MeasureLaws
 pub mod BufferLaws
 pub mod LogicalLaws
+pub mod OutcomeLaws
 pub mod Cases

@@ -1,9 +1,27 @@
 // The R6RS bitwise operations on integers of up to 1,024 limbs of 32 bits, least significant first, in two's complement.
+//
+// A call that writes an integer takes its operands, its numbers, the output buffer and the first limb to write. It writes the
+// shortest limbs of the result from there on, and changes no other limb. Refusals, in this order: 7 for an operand of no limb or of
+// more than 1,024, 5 for a number outside its domain, 6 for a result of more than 1,024 limbs, 8 for a buffer that is too short.
+// A refused call changes nothing.
+ghost use mathlib.Core.Bool.{_&&_, _||_, xor};
+ghost use Rattle.limbs.specs.Buffer.{Writes};
+ghost use Rattle.limbs.specs.Operations.{notOutcome, bitwiseOutcome, ifOutcome};
+
 mod limb;
 mod logical;
 mod measure;
+mod operand;
 mod result;
 mod run;
+
+use operand::combine_operands;
+use operand::is_operand;
+use operand::most;
+use result::Logic;
+use result::Operation;
+use run::refuse;
+use run::run;
 
 // What a call answers that writes an integer: a refusal number, 0 for done, and how many limbs it has written.
 pub struct Written {
@@ -15,4 +33,52 @@ pub struct Written {
 pub struct Number {
     pub refusal: u64,
     pub value: i64,
+}
+
+// bitwise-not
+pub fn bitwise_not(x: &[u32], out: &mut [u32], first: u64) -> Written
+    ensures { λ r. ⌜ Writes (notOutcome (now (x .entry))) (now (out .entry)) first r (now (out .exit)) ⌝ }
+{
+    if !is_operand(x) {
+        return refuse(7);
+    }
+    run(Operation::Not, x, x, x, x.len(), out, first)
+}
+
+// bitwise-and of two
+pub fn bitwise_and(x: &[u32], y: &[u32], out: &mut [u32], first: u64) -> Written
+    ensures { λ r. ⌜ Writes (bitwiseOutcome _&&_ (now (x .entry)) (now (y .entry))) (now (out .entry)) first r (now (out .exit)) ⌝ }
+{
+    combine_operands(Logic::And, x, y, out, first)
+}
+
+// bitwise-ior of two
+pub fn bitwise_ior(x: &[u32], y: &[u32], out: &mut [u32], first: u64) -> Written
+    ensures { λ r. ⌜ Writes (bitwiseOutcome _||_ (now (x .entry)) (now (y .entry))) (now (out .entry)) first r (now (out .exit)) ⌝ }
+{
+    combine_operands(Logic::Ior, x, y, out, first)
+}
+
+// bitwise-xor of two
+pub fn bitwise_xor(x: &[u32], y: &[u32], out: &mut [u32], first: u64) -> Written
+    ensures { λ r. ⌜ Writes (bitwiseOutcome xor (now (x .entry)) (now (y .entry))) (now (out .entry)) first r (now (out .exit)) ⌝ }
+{
+    combine_operands(Logic::Xor, x, y, out, first)
+}
+
+// bitwise-if
+pub fn bitwise_if(x: &[u32], y: &[u32], z: &[u32], out: &mut [u32], first: u64) -> Written
+    ensures { λ r. ⌜ Writes (ifOutcome (now (x .entry)) (now (y .entry)) (now (z .entry))) (now (out .entry)) first r (now (out .exit)) ⌝ }
+{
+    if !is_operand(x) {
+        return refuse(7);
+    }
+    if !is_operand(y) {
+        return refuse(7);
+    }
+    if !is_operand(z) {
+        return refuse(7);
+    }
+    let enough = most(x.len(), most(y.len(), z.len()));
+    run(Operation::If, x, y, z, enough, out, first)
 }

@@ -1,0 +1,94 @@
+-- The stages of a limb call: an operand that is legal or not, and what follows for the answer and the buffer; how long a result can be.
+-- Assumes nothing.
+use Prim.Native.Nat.{ℕ, _*_, _-_, _≤_, _<_}
+use native.Mathlib.Omega.{arith}
+use mathlib.Core.Path.{_≡_, refl, sym, ap, ap₂, _∙_, subst}
+use mathlib.Core.Bool.{Bool, true, false, cond, _&&_, _||_}
+use mathlib.Core.List.{List}
+use lib.Dec.{leb}
+use lib.IntN.{ℤ}
+use lib.ListN.{length}
+use borrow.Author.Tests.{leb-true}
+use Rattle.bits.specs.Testbit.{bitLength}
+use Rattle.bits.specs.Logical.{bitwise, bitwiseNot, bitwiseAnd, bitwiseIor, bitwiseIf}
+use Rattle.bits.proofs.TestbitLaws.{testbit-above}
+use Rattle.bits.proofs.LengthLaws.{bitLength-least-bits, bitLength-not}
+use Rattle.bits.proofs.LogicalLaws.{testbit-bitwise, isNegative-bitwise}
+use Rattle.limbs.specs.declared.Written.{Written}
+use Rattle.limbs.specs.Value.{value}
+use Rattle.limbs.specs.Buffer.{Outcome, refused, integer, unless, refusal, written, afterwards, Writes}
+use Rattle.limbs.specs.Operations.{mostLimbs, isOperand, operand}
+use Rattle.limbs.proofs.ValueLaws.{value-length}
+
+-- ---- stages
+
+pub passed : (test : Bool) (k : ℕ) (o : Outcome) → test ≡ true → unless test k o ≡ o
+unfolding unless
+passed test k o h = ap (λ (t : Bool). cond t o (refused k)) h
+
+pub failed : (test : Bool) (k : ℕ) (o : Outcome) → test ≡ false → unless test k o ≡ refused k
+unfolding unless
+failed test k o h = ap (λ (t : Bool). cond t o (refused k)) h
+
+pub operand-passed : (xs : List ℕ) (o : Outcome) → isOperand xs ≡ true → operand xs o ≡ o
+unfolding operand
+operand-passed xs o h = passed (isOperand xs) 7 o h
+
+pub operand-failed : (xs : List ℕ) (o : Outcome) → isOperand xs ≡ false → operand xs o ≡ refused 7
+unfolding operand
+operand-failed xs o h = failed (isOperand xs) 7 o h
+
+pub operand-length : (xs : List ℕ) → isOperand xs ≡ true → 0 < length xs
+unfolding isOperand
+operand-length xs h = leb-true 1 (length xs) (left (leb 1 (length xs)) (leb (length xs) mostLimbs) h)
+  where
+    left : (a b : Bool) → a && b ≡ true → a ≡ true
+    left true b e = refl
+    left false b e = e
+
+-- ---- answers
+
+pub writes-refused : {o : Outcome} {k : ℕ} (out : List ℕ) (first : ℕ) {r : Written} → o ≡ refused k → r ≡ refusal k → Writes o out first r out
+unfolding written afterwards
+writes-refused out first e q = record {
+  answer = q ∙ sym (ap (λ (o : Outcome). written o out first) e);
+  buffer = sym (ap (λ (o : Outcome). afterwards o out first) e);
+}
+
+pub writes-as : {o p : Outcome} {out out′ : List ℕ} {first : ℕ} {r : Written} → o ≡ p → Writes p out first r out′ → Writes o out first r out′
+writes-as {out} {out′} {first} {r} e w = subst (λ (q : Outcome). Writes q out first r out′) (sym e) w
+
+-- ---- how long a result can be
+
+bitwise-length : (op : Bool → Bool → Bool) (x y : ℤ) (k : ℕ) → bitLength x ≤ k → bitLength y ≤ k → bitLength (bitwise op x y) ≤ k
+bitwise-length op x y k h l =
+    bitLength-least-bits (bitwise op x y) k (λ i g.
+    testbit-bitwise op x y i
+    ∙ ap₂ op (testbit-above x i (omega arith)) (testbit-above y i (omega arith))
+    ∙ sym (isNegative-bitwise op x y))
+
+pub not-enough : (xs : List ℕ) → 0 < length xs → bitLength (bitwiseNot (value xs)) < 32 * length xs
+not-enough xs h = subst (λ (k : ℕ). k < 32 * length xs) (sym (bitLength-not (value xs))) (value-length xs h)
+
+-- n limbs are enough for each operand
+pub bitwise-enough : (op : Bool → Bool → Bool) (xs ys : List ℕ) (n : ℕ) → 0 < length xs → 0 < length ys → length xs ≤ n → length ys ≤ n
+    → bitLength (bitwise op (value xs) (value ys)) < 32 * n
+bitwise-enough op xs ys n p q h l =
+    let a = value-length xs p in
+    let b = value-length ys q in
+    omega (arith, bitwise-length op (value xs) (value ys) (32 * n - 1) (omega arith) (omega arith))
+
+pub if-enough : (xs ys zs : List ℕ) (n : ℕ) → 0 < length xs → 0 < length ys → 0 < length zs → length xs ≤ n → length ys ≤ n → length zs ≤ n
+    → bitLength (bitwiseIf (value xs) (value ys) (value zs)) < 32 * n
+unfolding bitwiseIf bitwiseAnd bitwiseIor
+if-enough xs ys zs n p q r h l m =
+    let a = value-length xs p in
+    let b = value-length ys q in
+    let c = value-length zs r in
+    let d = bitLength-not (value xs) in
+    omega (
+      arith,
+      bitwise-length _||_ (bitwise _&&_ (value xs) (value ys)) (bitwise _&&_ (bitwiseNot (value xs)) (value zs)) (32 * n - 1)
+          (bitwise-length _&&_ (value xs) (value ys) (32 * n - 1) (omega arith) (omega arith))
+          (bitwise-length _&&_ (bitwiseNot (value xs)) (value zs) (32 * n - 1) (omega arith) (omega arith)),
+    )
