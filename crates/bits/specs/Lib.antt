@@ -1,5 +1,6 @@
 pub mod Testbit
 pub mod Sign
+pub mod Range
 pub mod Logical
 pub mod Shift
 pub mod Division

@@ -15,7 +15,8 @@ use Rattle.bits.specs.Field.{rotateBitField, reverseBitField}
 use Rattle.bits.proofs.IntegerLaws.{pos-sub-ge}
 use Rattle.fixnum.specs.declared.Answer.{Answer}
 use Rattle.fixnum.specs.Answers.{done, refuse, unless}
-use Rattle.fixnum.specs.Domains.{isWidth, arg, within, accepts, inDomainsFrom, inDomains}
+use Rattle.bits.specs.Range.{within}
+use Rattle.fixnum.specs.Domains.{isWidth, arg, accepts, inDomainsFrom, inDomains}
 use Rattle.fixnum.specs.Operations.{every, one, three, four}
 use Rattle.fixnum.specs.Table.{row, rows, isCode, rowOf}
 use Rattle.fixnum.specs.Calls.{Accepted, counted, isCount, allFixnums, sized, outcome, fixnumAnswer}

@@ -12,7 +12,8 @@ use Rattle.bits.specs.Field.{inField, setField, permuteField, rotateIndex, reve
 use Rattle.bits.specs.Count.{onesBelow, ones, bitCount, firstTrue, firstBitSet}
 use Rattle.fixnum.specs.declared.Answer.{Answer}
 use Rattle.fixnum.specs.Answers.{done, refuse, unless}
-use Rattle.fixnum.specs.Domains.{leastWidth, largestWidth, isWidth, arg, within, accepts, inDomainsFrom, inDomains}
+use Rattle.bits.specs.Range.{within}
+use Rattle.fixnum.specs.Domains.{leastWidth, largestWidth, isWidth, arg, accepts, inDomainsFrom, inDomains}
 use Rattle.fixnum.specs.Operations.{every, one, two, three, four, minus, carry, copyBitAt}
 use Rattle.fixnum.specs.Table.{rows, noRow, isCode, rowOf}
 use Rattle.fixnum.specs.Calls.{counted, isCount, allFixnums, sized, outcome, fixnumAnswer}

@@ -15,7 +15,8 @@ use Rattle.bits.proofs.Booleans.{and-true}
 use Rattle.bits.proofs.IntegerLaws.{pos-sub-ge}
 use Rattle.words.proofs.WordLaws.{back}
 use Rattle.fixnum.specs.declared.checks.Shape.the-variants.{Division, Bit, NewBit, Field, SignedShift, Shift, Rotation}
-use Rattle.fixnum.specs.Domains.{arg, isWidth, within, accepts, inDomainsFrom, inDomains}
+use Rattle.bits.specs.Range.{within}
+use Rattle.fixnum.specs.Domains.{arg, isWidth, accepts, inDomainsFrom, inDomains}
 use Rattle.fixnum.specs.Steps.{domainsOf}
 use Rattle.fixnum.specs.Calls.{counted}
 use Rattle.fixnum.proofs.CallLaws.{arg-counted, width-bounds}

@@ -13,7 +13,8 @@ use borrow.Author.Tests.{leb-true, ltb-true}
 use Rattle.bits.specs.Testbit.{isNegative, fits}
 use Rattle.bits.proofs.IntegerLaws.{pos-sub-ge}
 use Rattle.fixnum.specs.declared.checks.Shape.the-variants.{Division, Bit, NewBit, Field, SignedShift, Shift, Rotation}
-use Rattle.fixnum.specs.Domains.{arg, within, Domain, inDomains}
+use Rattle.bits.specs.Range.{within}
+use Rattle.fixnum.specs.Domains.{arg, Domain, inDomains}
 use Rattle.fixnum.specs.Table.{rows, rowOf}
 use Rattle.fixnum.specs.Steps.{domainsOf}
 use Rattle.fixnum.specs.Calls.{Accepted, counted, isCount}

@@ -21,7 +21,8 @@ use Rattle.bits.proofs.LengthLaws.{fits-not}
 use Rattle.bits.proofs.FitsLaws.{zero-fits, small-fits, bitLength-fits, bitCount-fits, firstBitSet-fits, mod-fits, mod0-fits, low-fits, high-fits, if-fits, setField-fits, bitField-fits}
 use Rattle.words.proofs.WordLaws.{fits-mag}
 use Rattle.words.proofs.SignedLaws.{natAbs-add, natAbs-sub, natAbs-mul}
-use Rattle.fixnum.specs.Domains.{isWidth, arg, within, Domain, fixnum, divisor, position, fieldEnd, accepts, inDomainsFrom, inDomains}
+use Rattle.bits.specs.Range.{within}
+use Rattle.fixnum.specs.Domains.{isWidth, arg, Domain, fixnum, divisor, position, fieldEnd, accepts, inDomainsFrom, inDomains}
 use Rattle.fixnum.specs.Operations.{every, one, two, three, four, question, truth, foldFrom, larger, smaller, largest, smallest, carry, copyBitAt}
 use Rattle.fixnum.specs.Calls.{allFixnums}
 use Rattle.fixnum.proofs.CallLaws.{both-left, both-right, between, width-bounds}

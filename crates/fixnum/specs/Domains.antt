@@ -1,7 +1,6 @@
 -- Where the arguments of a call must lie: 01's width, and its domains, one test for each argument, from left to right.
 --   isWidth w               ==  24 <= w <= 62
 --   arg xs i                ==  argument i of xs, from 0
---   within a x b            ==  a <= x <= b
 --   accepts d w xs x        ==  whether x, an argument of xs at width w, lies in the domain d
 --   inDomains ds w xs       ==  whether each argument lies in its domain; ds may be shorter than xs
 -- A field's start is argument 1 and its end argument 2.
@@ -12,6 +11,7 @@ use lib.Dec.{leb, ltb}
 use lib.IntN.{ℤ, pos, negℤ, natAbs, _-ℤ_}
 use lib.ListN.{getD}
 use lib.Signed.{leZ, ltZ}
+use Rattle.bits.specs.Range.{within}
 
 unfoldable pub leastWidth : ℕ
 leastWidth = 24
@@ -24,9 +24,6 @@ isWidth w = leb leastWidth w && leb w largestWidth
 
 unfoldable pub arg : List ℤ → ℕ → ℤ
 arg xs i = getD xs i (pos 0)
-
-unfoldable pub within : ℤ → ℤ → ℤ → Bool
-within a x b = leZ a x && leZ x b
 
 pub data Domain : Type 0 where
   fixnum divisor position fieldEnd newBit signedDistance distance rotation : Domain

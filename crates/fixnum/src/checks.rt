@@ -3,6 +3,7 @@ ghost use mathlib.Core.Path.{_≡_};
 ghost use mathlib.Core.Bool.{true, _&&_};
 ghost use lib.IntN.{pos, _-ℤ_};
 ghost use lib.Signed.{leZ, ltZ};
+ghost use Rattle.bits.specs.Range as range;
 ghost use Rattle.fixnum.specs.Domains as domains;
 ghost use Rattle.fixnum.specs.Table.{isCode, rowOf};
 ghost use Rattle.fixnum.specs.Calls.{isCount, counted};
@@ -121,20 +122,20 @@ fn shape_of(code: u64) -> Shape
 }
 
 fn within(low: i64, x: i64, high: i64) -> bool
-    ensures { λ r. ⌜ r ≡ domains.within low x high ⌝ }
+    ensures { λ r. ⌜ r ≡ range.within low x high ⌝ }
 {
     low <= x && x <= high
 }
 
 // Whether x lies from 0 to last, and y from low to high.
 fn both_within(x: i64, last: i64, low: i64, y: i64, high: i64) -> bool
-    ensures { λ r. ⌜ r ≡ domains.within (pos 0) x last && domains.within low y high ⌝ }
+    ensures { λ r. ⌜ r ≡ range.within (pos 0) x last && range.within low y high ⌝ }
 {
     within(0, x, last) && within(low, y, high)
 }
 
 fn is_rotation(start: i64, end: i64, count: i64, last: i64) -> bool
-    ensures { λ r. ⌜ r ≡ (domains.within (pos 0) start last && domains.within start end last) && (leZ (pos 0) count && ltZ count (end -ℤ start)) ⌝ }
+    ensures { λ r. ⌜ r ≡ (range.within (pos 0) start last && range.within start end last) && (leZ (pos 0) count && ltZ count (end -ℤ start)) ⌝ }
 {
     if both_within(start, last, start, end, last) {
         0 <= count && count < end - start

@@ -13,22 +13,8 @@ use Rattle.bits.specs.Field.{inField, setField, permuteField, rotateIndex, reve
 use Rattle.bits.specs.Count.{onesBelow, ones, bitCount, firstTrue, firstBitSet}
 use Rattle.limbs.specs.Value.{onTop, value, limbsOf, limbCount, shortest}
 use Rattle.limbs.specs.Buffer.{Outcome, refused, integer, unless, room, laid, fitsIn, refusal, written, afterwards, number}
-use Rattle.limbs.specs.Operations.{
-  mostLimbs,
-  isOperand,
-  operand,
-  within,
-  field,
-  sized,
-  notOutcome,
-  bitwiseOutcome,
-  shiftOutcome,
-  rotateOutcome,
-  reverseOutcome,
-  bitCountOutcome,
-  lengthOutcome,
-  firstBitSetOutcome,
-}
+use Rattle.bits.specs.Range.{within}
+use Rattle.limbs.specs.Operations.{mostLimbs, isOperand, operand, field, sized, notOutcome, bitwiseOutcome, shiftOutcome, rotateOutcome, reverseOutcome, bitCountOutcome, lengthOutcome, firstBitSetOutcome}
 
 -- a buffer of two limbs after a call that writes from its start
 abbrev twoLimbs : Outcome → List ℕ

@@ -2,7 +2,6 @@
 --   mostLimbs                ==  1,024
 --   isOperand xs             ==  whether xs has 1 to 1,024 limbs
 --   operand xs o             ==  o, or refusal 7 where xs is no operand
---   within a x b             ==  a <= x <= b
 --   field start end o        ==  o, or refusal 5 unless 0 <= start <= end <= 32,767
 --   sized z                  ==  z, or refusal 6 where it has more than 1,024 limbs
 use Prim.Native.Nat.{ℕ}
@@ -19,6 +18,7 @@ use Rattle.bits.specs.Shift.{arithmeticShift, shiftLeft, shiftRight}
 use Rattle.bits.specs.Field.{copyBit, bitField, copyBitField, rotateBitField, reverseBitField}
 use Rattle.limbs.specs.Value.{value, limbCount}
 use Rattle.limbs.specs.Buffer.{Outcome, integer, unless}
+use Rattle.bits.specs.Range.{within}
 
 unfoldable pub mostLimbs : ℕ
 mostLimbs = 1024
@@ -28,9 +28,6 @@ isOperand xs = leb 1 (length xs) && leb (length xs) mostLimbs
 
 unfoldable pub operand : List ℕ → Outcome → Outcome
 operand xs outcome = unless (isOperand xs) 7 outcome
-
-unfoldable pub within : ℤ → ℤ → ℤ → Bool
-within a x b = leZ a x && leZ x b
 
 unfoldable pub field : ℤ → ℤ → Outcome → Outcome
 field start end outcome = unless (within (pos 0) start end) 5 (unless (leZ end (pos 32767)) 5 outcome)

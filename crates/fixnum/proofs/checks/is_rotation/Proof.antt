@@ -6,7 +6,7 @@ use lib.Signed.{leZ}
 use mir.Syntax.{w64}
 use mir.Val.{SFits}
 use Rattle.words.proofs.WordLaws.{back}
-use Rattle.fixnum.specs.Domains.{within}
+use Rattle.bits.specs.Range.{within}
 use Rattle.fixnum.proofs.CallLaws.{both-left, both-right, and-first, and-second}
 use Rattle.fixnum.proofs.DomainLaws.{field-size}
 use borrow.Author.Needs.{needs}
