@@ -12,7 +12,7 @@ use lib.IntN.{ℤ}
 use lib.ListN.{take}
 use Rattle.bits.specs.Testbit.{fits}
 use Rattle.fixnum.specs.declared.Answer.{Answer}
-use Rattle.fixnum.specs.Answers.{done, refuse, unless}
+use Rattle.fixnum.specs.Answers.{done, unless}
 use Rattle.fixnum.specs.Domains.{isWidth, inDomains}
 use Rattle.fixnum.specs.Table.{isCode, rowOf}
 

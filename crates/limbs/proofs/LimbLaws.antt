@@ -1,25 +1,24 @@
 -- A limb as 32 bits of an integer: one law from bits to the limb, the limbs of an operand, and what continues it. Assumes nothing.
-use Prim.Native.Nat.{ℕ, zero, suc, _+_, _*_, _-_, _/_, _%_, _^_, _≤_, _<_}
-use native.Mathlib.Nat.{mod-lt, div-lt-iff-lt-mul}
+use Prim.Native.Nat.{ℕ, _+_, _*_, _-_, _/_, _%_, _^_, _≤_, _<_}
+use native.Mathlib.Nat.{mod-lt}
 use native.Mathlib.Omega.{arith}
-use mathlib.Core.Path.{_≡_, refl, sym, ap, _∙_, subst}
-use mathlib.Core.Bool.{Bool, true, false, cond, not, _&&_}
+use mathlib.Core.Path.{_≡_, refl, sym, ap, _∙_}
+use mathlib.Core.Bool.{Bool, true, false, cond, not}
 use mathlib.Core.List.{List, [], _∷_}
 use lib.Dec.{eqb, ltb, lit<}
 use lib.IntN.{ℤ, pos}
 use lib.ListN.{length, getD}
 use lib.Pow.{pow-pos}
-use borrow.Author.Tests.{lt-ltb, le-ltb, ltb-true, ltb-false}
+use borrow.Author.Tests.{ltb-true, ltb-false}
 use Rattle.bits.specs.Testbit.{odd, isNegative, testbit, bitLength, fill}
 use Rattle.bits.specs.Shift.{shiftRight}
 use Rattle.bits.specs.Division.{modℕ}
-use Rattle.bits.proofs.TestbitLaws.{testbit-ext, testbit-shiftRight, testbit-mag-lt}
+use Rattle.bits.proofs.TestbitLaws.{testbit-ext, testbit-shiftRight}
 use Rattle.bits.proofs.ShiftLaws.{shiftRight-above}
 use Rattle.bits.proofs.ModLaws.{modℕ-lt}
-use Rattle.bits.proofs.ValueLaws.{testbit-modℕ-pow}
 use Rattle.bits.proofs.FieldWords.{testbit-modℕ-lt, testbit-mod-lt, testbit-div, testbit-digits}
 use Rattle.limbs.specs.Value.{value, bitsFrom}
-use Rattle.limbs.proofs.ValueLaws.{pos-injective, testbit-value, testbit-value-sign, value-length, small-bits}
+use Rattle.limbs.proofs.ValueLaws.{pos-injective, testbit-value, testbit-value-sign, small-bits}
 
 pub bitsFrom-lt : (z : ℤ) (at : ℕ) → bitsFrom z at < 2 ^ 32
 unfolding bitsFrom

@@ -14,7 +14,7 @@ use borrow.Author.Tests.{ltb-true, ltb-false}
 use Rattle.bits.specs.Testbit.{isNegative, testbit, bitLength, fill, ofBits}
 use Rattle.bits.specs.Shift.{shiftRight}
 use Rattle.bits.specs.Division.{modℕ}
-use Rattle.bits.proofs.TestbitLaws.{by-lt, testbit-ext, testbit-above, testbit-mag-lt, testbit-shiftRight, testbit-ofBits-lt, testbit-ofBits-ge, isNegative-ofBits, testbit-fill, isNegative-fill, isNegative-shiftRight}
+use Rattle.bits.proofs.TestbitLaws.{testbit-ext, testbit-above, testbit-mag-lt, testbit-shiftRight, testbit-ofBits-lt, testbit-ofBits-ge, isNegative-ofBits, testbit-fill, isNegative-fill, isNegative-shiftRight}
 use Rattle.bits.proofs.LengthLaws.{bitLength-least-bits}
 use Rattle.bits.proofs.ShiftLaws.{shiftRight-above}
 use Rattle.bits.proofs.ModLaws.{modℕ-lt}

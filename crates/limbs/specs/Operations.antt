@@ -5,7 +5,7 @@
 --   field start end o        ==  o, or refusal 5 unless 0 <= start <= end <= 32,767
 --   sized z                  ==  z, or refusal 6 where it has more than 1,024 limbs
 use Prim.Native.Nat.{ℕ}
-use mathlib.Core.Bool.{Bool, true, _&&_, cond}
+use mathlib.Core.Bool.{Bool, _&&_, cond}
 use mathlib.Core.List.{List}
 use lib.Dec.{leb}
 use lib.IntN.{ℤ, pos, natAbs}

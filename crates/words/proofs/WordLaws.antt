@@ -1,6 +1,6 @@
 -- How the logic reads a signed 64-bit word, said of integers: the bits of x, read as signed, are x; what the machine's sign test, complement and
 -- casts give. Assumes nothing.
-use Prim.Native.Nat.{ℕ, zero, zero-le, suc, _+_, _-_, _<_, _≤_, _^_}
+use Prim.Native.Nat.{ℕ, zero, zero-le, suc, _+_, _-_, _<_, _^_}
 use native.Mathlib.Omega.{arith}
 use mathlib.Core.Path.{_≡_, refl, sym, ap, _∙_, subst}
 use mathlib.Core.Bool.{Bool, true, false, cond}

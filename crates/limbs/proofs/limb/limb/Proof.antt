@@ -1,9 +1,8 @@
 -- `limbs::limb::limb` meets its contract. Assumes nothing.
-use Prim.Native.Nat.{ℕ, _*_, _≤_}
+use Prim.Native.Nat.{_*_}
 use native.Mathlib.Omega.{arith}
-use mathlib.Core.Path.{_≡_, sym, _∙_}
+use mathlib.Core.Path.{sym, _∙_}
 use lib.ListN.{length}
-use Rattle.bits.specs.Testbit.{bitLength}
 use Rattle.limbs.specs.Value.{value}
 use Rattle.limbs.proofs.ValueLaws.{value-length}
 use Rattle.limbs.proofs.LimbLaws.{limb-value, bitsFrom-above}

@@ -1,7 +1,5 @@
 -- `limbs::logical::if_limb` meets its contract. Assumes nothing.
-use Prim.Native.Nat.{ℕ, _*_, _-_}
-use mathlib.Core.Path.{_∙_}
-use lib.Bits.{bitAnd, bitOr}
+use Prim.Native.Nat.{_*_, _-_}
 use Rattle.limbs.specs.Value.{value}
 use Rattle.limbs.proofs.LogicalLaws.{bitsFrom-if}
 use borrow.Author.Needs.{needs}

@@ -1,5 +1,5 @@
 -- `limbs::logical::not_limb` meets its contract. Assumes nothing.
-use mathlib.Core.Path.{_≡_, ap, _∙_}
+use mathlib.Core.Path.{ap, _∙_}
 use Prim.Native.Nat.{ℕ, _-_}
 use Rattle.limbs.proofs.LogicalLaws.{bitsFrom-not}
 use borrow.Author.Needs.{needs}

@@ -1,7 +1,7 @@
 -- `limbs::logical::write_common` meets its contract, turn by turn. Assumes nothing.
 use Prim.Native.Nat.{ℕ, _-_, _*_}
 use native.Mathlib.Omega.{arith}
-use mathlib.Core.Path.{_≡_, ap₂, _∙_}
+use mathlib.Core.Path.{ap₂, _∙_}
 use lib.IntN.{pos}
 use borrow.Author.Needs.{needs}
 use Rattle.bits.specs.Testbit.{testbit}

@@ -1,5 +1,5 @@
 -- `limbs::measure::limb_of` meets its contract. Assumes nothing.
-use Prim.Native.Nat.{ℕ, _*_}
+use Prim.Native.Nat.{ℕ}
 use mathlib.Core.Path.{_≡_, sym, ap, _∙_}
 use lib.IntN.{ℤ}
 use Rattle.limbs.specs.declared.result.Operation.{Operation}

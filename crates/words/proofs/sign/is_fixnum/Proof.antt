@@ -1,5 +1,5 @@
 -- `words::sign::is_fixnum` meets its contract. Assumes nothing.
-use mathlib.Core.Path.{_≡_, ap, _∙_}
+use mathlib.Core.Path.{ap, _∙_}
 use borrow.Author.Needs.{needs}
 use lib.Signed.{mag}
 use Rattle.bits.specs.Testbit.{fits}

@@ -1,6 +1,5 @@
 -- `words::sign::magnitude` meets its contract. Assumes nothing.
 use mathlib.Core.Path.{_≡_, sym, ap, _∙_}
-use mathlib.Core.Bool.{true, false}
 use Prim.Native.Nat.{_-_}
 use lib.IntN.{pos, natAbs}
 use lib.Signed.{mag}

@@ -1,8 +1,7 @@
 -- `words::sign::power` meets its contract: a power of two below 2^64 does not wrap. Assumes nothing.
-use mathlib.Core.Path.{_≡_, ap, _∙_}
-use Prim.Native.Nat.{ℕ, _*_, _%_, _<_, _^_}
+use mathlib.Core.Path.{ap, _∙_}
+use Prim.Native.Nat.{ℕ, _%_, _^_}
 use native.Mathlib.Nat.{one-mul, mod-eq-of-lt}
-use native.Mathlib.Omega.{arith}
 use borrow.Author.Needs.{needs}
 use lib.Pow.{pow-lt}
 use Rattle.words.proofs.sign.power.Statement.{statement}
