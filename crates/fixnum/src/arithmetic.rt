@@ -9,7 +9,6 @@ use words::sign::absolute;
 use words::sign::is_negative;
 use words::wide::add_word;
 use words::wide::product;
-use words::wide::subtract_word;
 use words::wide::widen;
 
 // fx+ fx* fx-: only fx- takes one argument.
@@ -24,8 +23,8 @@ pub fn arithmetic(width: u64, code: u64, args: [i64; 4], count: u64) -> Answer
     }
     let y = args[1];
     match code {
-        13 => exact(6, width, add_word(widen(x), y)),
+        13 => exact(6, width, add_word(widen(x), false, y)),
         14 => exact(6, width, product(x, y)),
-        _ => exact(5, width, subtract_word(widen(x), y)),
+        _ => exact(5, width, add_word(widen(x), true, y)),
     }
 }

@@ -1,8 +1,8 @@
 // Codes 22 to 24: an exact sum, difference or product s of three arguments, as s mod0 2^width and s div0 2^width.
 ghost use mathlib.Core.Path.{_≡_};
-ghost use mathlib.Core.Bool.{true, cond};
+ghost use mathlib.Core.Bool.{true};
 ghost use Prim.Native.Nat.{_+_, _≤_, _<_, _^_};
-ghost use lib.IntN.{pos, natAbs, _+ℤ_, _-ℤ_};
+ghost use lib.IntN.{pos, natAbs};
 ghost use Rattle.bits.specs.Division.{div0, mod0};
 ghost use Rattle.words.specs.Wide.{wideValue};
 ghost use Rattle.fixnum.specs.Answers as answers;
@@ -15,20 +15,7 @@ use words::parts::low_part;
 use words::wide::Wide;
 use words::wide::add_word;
 use words::wide::product;
-use words::wide::subtract_word;
 use words::wide::widen;
-
-// s - x where minus, else s + x.
-fn add_signed(s: Wide, minus: bool, x: i64) -> Wide
-    requires { ⌜ natAbs (wideValue s) < 2 ^ 127 ⌝ }
-    ensures { λ r. ⌜ wideValue r ≡ cond minus (wideValue s -ℤ x) (wideValue s +ℤ x) ⌝ }
-{
-    if minus {
-        subtract_word(s, x)
-    } else {
-        add_word(s, x)
-    }
-}
 
 fn parts(width: u64, s: Wide) -> Answer
     requires { ⌜ isWidth width ≡ true ⌝ }
@@ -48,8 +35,8 @@ pub fn carry(width: u64, code: u64, args: [i64; 4], count: u64) -> Answer
     let y = args[1];
     let z = args[2];
     if code == 24 {
-        return parts(width, add_word(product(x, y), z));
+        return parts(width, add_word(product(x, y), false, z));
     }
     let minus = code == 23;
-    parts(width, add_signed(add_signed(widen(x), minus, y), minus, z))
+    parts(width, add_word(add_word(widen(x), minus, y), minus, z))
 }

@@ -1,6 +1,6 @@
 // Sums and products of words that are exact: the result has a sign and two words.
 ghost use mathlib.Core.Path.{_≡_};
-ghost use mathlib.Core.Bool.{not};
+ghost use mathlib.Core.Bool.{cond, not};
 ghost use Prim.Native.Nat.{_<_, _*_, _^_};
 ghost use lib.IntN.{natAbs, _+ℤ_, _-ℤ_, _*ℤ_};
 ghost use Rattle.bits.specs.Sign.{withSign};
@@ -105,16 +105,10 @@ pub fn add(s: Wide, negative: bool, n: u64) -> Wide
     }
 }
 
-pub fn add_word(s: Wide, x: i64) -> Wide
+// s - x where minus, else s + x.
+pub fn add_word(s: Wide, minus: bool, x: i64) -> Wide
     requires { ⌜ natAbs (wideValue s) < 2 ^ 127 ⌝ }
-    ensures { λ r. ⌜ wideValue r ≡ wideValue s +ℤ x ⌝ }
+    ensures { λ r. ⌜ wideValue r ≡ cond minus (wideValue s -ℤ x) (wideValue s +ℤ x) ⌝ }
 {
-    add(s, is_negative(x), absolute(x))
-}
-
-pub fn subtract_word(s: Wide, x: i64) -> Wide
-    requires { ⌜ natAbs (wideValue s) < 2 ^ 127 ⌝ }
-    ensures { λ r. ⌜ wideValue r ≡ wideValue s -ℤ x ⌝ }
-{
-    add(s, !is_negative(x), absolute(x))
+    add(s, minus != is_negative(x), absolute(x))
 }

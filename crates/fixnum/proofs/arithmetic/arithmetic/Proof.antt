@@ -75,9 +75,9 @@ exact-requires-2 c κs = search needs
 widen-requires-2 : tie.Need-widen-requires-2
 widen-requires-2 c κs = search needs
 
-subtract-word-requires : tie.Need-subtract-word-requires
+add-word-requires-2 : tie.Need-add-word-requires-2
 unfolding arg
-subtract-word-requires c κs = let x = first (c .before .before .before .before) in word-room (c .widen2 .result) _ x (c .widen2 .ensures ∙ back x)
+add-word-requires-2 c κs = let x = first (c .before .before .before .before) in word-room (c .widen2 .result) _ x (c .widen2 .ensures ∙ back x)
 
 exact-requires-3 : tie.Need-exact-requires-3
 exact-requires-3 c κs = search needs
@@ -106,7 +106,7 @@ returns-4 c =
     let e : start y .args .code ≡ 15 = omega arith in
     c .exact3 .ensures
     ∙ sized-cong 5 (start y .args .width)
-    (c .before .subtract-word .ensures ∙ ap₂ _-ℤ_ (c .before .before .widen2 .ensures ∙ back (first (y .before .before))) (back (second y))) refl
+    (c .before .add-word2 .ensures ∙ ap₂ _-ℤ_ (c .before .before .widen2 .ensures ∙ back (first (y .before .before))) (back (second y))) refl
     ∙ minus-outcome _ _ e (two-counted _ (accepted-at e (start y .pre .0) .arity) (y .before .if1 .left)) (start y .good .1 .1 .0 .1 .0 .1)
 
 pub arithmetic-spec : {M : Type 1} → statement M
@@ -125,7 +125,7 @@ arithmetic-spec =
     product-requires
     exact-requires-2
     widen-requires-2
-    subtract-word-requires
+    add-word-requires-2
     exact-requires-3
     returns-2
     returns-3

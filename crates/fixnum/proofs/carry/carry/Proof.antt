@@ -54,17 +54,17 @@ widened : (c : tie.After-widen) → wideValue (c .widen .result) ≡ arg (start 
 unfolding arg
 widened c = c .widen .ensures ∙ back (first (at c))
 
-partial-sum : (c : tie.After-add-signed)
-    → wideValue (c .add-signed .result)
+partial-sum : (c : tie.After-add-word2)
+    → wideValue (c .add-word2 .result)
     ≡ signed (eqb (start (at (c .before)) .args .code) 23) (arg (start (at (c .before)) .args .t3) 0) (arg (start (at (c .before)) .args .t3) 1)
 unfolding arg
-partial-sum c = cc (c .add-signed .ensures, widened (c .before), back (second (at (c .before))))
+partial-sum c = cc (c .add-word2 .ensures, widened (c .before), back (second (at (c .before))))
 
-sum : (c : tie.After-add-signed2)
-    → wideValue (c .add-signed2 .result)
+sum : (c : tie.After-add-word3)
+    → wideValue (c .add-word3 .result)
     ≡ signedSum (start (at (c .before .before)) .args .code) (arg (start (at (c .before .before)) .args .t3) 0) (arg (start (at (c .before .before)) .args .t3) 1) (arg (start (at (c .before .before)) .args .t3) 2)
 unfolding arg
-sum c = cc (c .add-signed2 .ensures, partial-sum (c .before), back (third (at (c .before .before))))
+sum c = cc (c .add-word3 .ensures, partial-sum (c .before), back (third (at (c .before .before))))
 
 array-copy-out-x : tie.Need-array-copy-out-x
 array-copy-out-x c = search needs
@@ -97,13 +97,13 @@ returns c =
 widen-requires : tie.Need-widen-requires
 widen-requires c κs = search needs
 
-add-signed-requires : tie.Need-add-signed-requires
-add-signed-requires c κs = word-room (c .widen .result) _ (first (at c)) (widened c)
+add-word-requires-2 : tie.Need-add-word-requires-2
+add-word-requires-2 c κs = word-room (c .widen .result) _ (first (at c)) (widened c)
 
-add-signed-requires-2 : tie.Need-add-signed-requires-2
-add-signed-requires-2 c κs =
+add-word-requires-3 : tie.Need-add-word-requires-3
+add-word-requires-3 c κs =
     let a = at (c .before) in
-    sum-room (c .add-signed .result) _ _ _ (first a) (second a) (natAbs-signed (eqb (start a .args .code) 23) (arg (start a .args .t3) 0) (arg (start a .args .t3) 1)) (partial-sum c)
+    sum-room (c .add-word2 .result) _ _ _ (first a) (second a) (natAbs-signed (eqb (start a .args .code) 23) (arg (start a .args .t3) 0) (arg (start a .args .t3) 1)) (partial-sum c)
 
 parts-requires-2 : tie.Need-parts-requires-2
 parts-requires-2 c κs =
@@ -130,7 +130,7 @@ carry-spec =
     parts-requires
     returns
     widen-requires
-    add-signed-requires
-    add-signed-requires-2
+    add-word-requires-2
+    add-word-requires-3
     parts-requires-2
     returns-2)
