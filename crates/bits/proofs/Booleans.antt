@@ -1,6 +1,6 @@
--- Boolean identities, proved by computing both sides at every value. Assumes nothing.
+-- Boolean identities, proved by computing both sides at every value, and conjunctions. Assumes nothing.
 --   all₁ f g tt  :  f a ≡ g a for each a, where antt computes that they agree; all₂ and all₃ for two and three arguments
-use mathlib.Core.Path.{_≡_, refl, sym}
+use mathlib.Core.Path.{_≡_, refl, sym, ap, subst, _∙_}
 use mathlib.Core.Bool.{Bool, true, false, not, _&&_, Bool·beq}
 use lib.Dec.{T}
 
@@ -55,3 +55,19 @@ not-not = all₁ (λ b. not (not b)) (λ b. b) tt
 pub and-distrib : (op : Bool → Bool → Bool) → op false false ≡ false → (c a b : Bool) → c && op a b ≡ op (c && a) (c && b)
 and-distrib op keeps true a b = refl
 and-distrib op keeps false a b = sym keeps
+
+-- the two halves of a conjunction that holds
+pub both-left : (a b : Bool) → a && b ≡ true → a ≡ true
+both-left true b h = refl
+both-left false b h = h
+
+pub both-right : (a b : Bool) → a && b ≡ true → b ≡ true
+both-right true b h = h
+both-right false b h = absurd (subst T (sym h) tt)
+
+-- what a test `a && b` answers, where a holds and where it does not
+pub and-second : (a b : Bool) → a ≡ true → b ≡ a && b
+and-second a b h = ap (λ (t : Bool). t && b) (sym h)
+
+pub and-first : (a b : Bool) → a ≡ false → a ≡ a && b
+and-first a b h = h ∙ ap (λ (t : Bool). t && b) (sym h)

@@ -32,11 +32,12 @@ is-true {t = false} h = absurd h
 holds : {t : Bool} → t ≡ true → T t
 holds e = subst T (sym e) tt
 
-lt-two-pow : (k : ℕ) → k < 2 ^ k
+pub lt-two-pow : (k : ℕ) → k < 2 ^ k
 lt-two-pow zero = lit< tt
 lt-two-pow (suc k) = omega (arith, pow-suc 2 k, lt-two-pow k)
 
-double : (w : ℕ) → 0 < w → 2 ^ w ≡ 2 * 2 ^ (w - 1)
+-- 2^w is twice 2^(w-1)
+pub double : (w : ℕ) → 0 < w → 2 ^ w ≡ 2 * 2 ^ (w - 1)
 double zero h = absurd (omega arith)
 double (suc w) h = let e : suc w - 1 ≡ w = omega arith in rw e (omega (arith, pow-suc 2 w))
 

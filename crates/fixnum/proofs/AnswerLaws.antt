@@ -1,15 +1,15 @@
 -- The stages of an answer, passed one by one; and the answers to the codes that demand 3 speaks of. Assumes nothing.
-use Prim.Native.Nat.{ℕ, zero, zero-le, suc, _-_, _≤_, _<_, _^_}
-use native.Mathlib.Nat.{le-trans, lt-of-le-of-lt, pow-suc}
+use Prim.Native.Nat.{ℕ, zero, zero-le, _-_, _≤_, _^_}
+use native.Mathlib.Nat.{le-trans, lt-of-le-of-lt}
 use native.Mathlib.Omega.{arith}
 use mathlib.Core.Path.{_≡_, refl, ap, _∙_, subst}
 use mathlib.Core.Bool.{Bool, true, false, cond, _&&_}
 use mathlib.Core.List.{List, [], _∷_}
-use lib.Dec.{lit<}
 use lib.IntN.{ℤ, pos, natAbs}
 use lib.ListN.{length}
 use lib.Seq.{take-length}
 use borrow.Author.Tests.{le-leb, lt-ltb}
+use Rattle.bits.proofs.FitsLaws.{lt-two-pow}
 use Rattle.bits.specs.Testbit.{fits}
 use Rattle.bits.specs.Field.{rotateBitField, reverseBitField}
 use Rattle.bits.proofs.IntegerLaws.{pos-sub-ge}
@@ -40,10 +40,6 @@ accepted w code xs n k a =
     passed 1 _ (a .width) ∙ passed 2 _ k ∙ passed 3 _ (a .arity) ∙ passed 4 _ (a .fixnums) ∙ passed 5 _ (a .domains)
 
 -- ---- the field operations
-
-lt-two-pow : (k : ℕ) → k < 2 ^ k
-lt-two-pow zero = lit< tt
-lt-two-pow (suc k) = omega (arith, pow-suc 2 k, lt-two-pow k)
 
 module _ (w : ℕ) (a : isWidth w ≡ true) where
   -- a position is a fixnum

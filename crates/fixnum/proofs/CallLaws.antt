@@ -14,28 +14,13 @@ use lib.Signed.{mag}
 use mir.Syntax.{w64}
 use mir.Val.{SFits, toZ, ofZ}
 use borrow.Author.Tests.{leb-true, lt-ltb, ne-eqb}
+use Rattle.bits.proofs.Booleans.{both-left, both-right}
 use Rattle.bits.specs.Testbit.{fits}
 use Rattle.words.proofs.WordLaws.{back-word, fits-mag}
 use Rattle.fixnum.specs.declared.Answer.{Answer}
 use Rattle.fixnum.specs.Answers.{done, refuse, unless}
 use Rattle.fixnum.specs.Domains.{leastWidth, largestWidth, isWidth, arg}
 use Rattle.fixnum.specs.Calls.{counted, allFixnums, sized}
-
--- the two halves of a conjunction that holds
-pub both-left : (a b : Bool) → a && b ≡ true → a ≡ true
-both-left true b h = refl
-both-left false b h = h
-
-pub both-right : (a b : Bool) → a && b ≡ true → b ≡ true
-both-right true b h = h
-both-right false b h = let z : _≡_ {A = ℕ} 0 1 = cc in absurd (omega arith)
-
--- what a test `a && b` answers, where a holds and where it does not
-pub and-second : (a b : Bool) → a ≡ true → b ≡ a && b
-and-second a b h = ap (λ (t : Bool). t && b) (sym h)
-
-pub and-first : (a b : Bool) → a ≡ false → a ≡ a && b
-and-first a b h = h ∙ ap (λ (t : Bool). t && b) (sym h)
 
 or-true : (b : Bool) → b || true ≡ true
 or-true true = refl

@@ -27,7 +27,8 @@ use Rattle.fixnum.specs.Operations.{every}
 use Rattle.fixnum.specs.Table.{row, rows, isCode, rowOf}
 use Rattle.fixnum.specs.Calls.{allFixnums}
 use Rattle.fixnum.specs.Lists.{ask, answerTo, handOn, runAll, isDone, turned, ListStatement}
-use Rattle.fixnum.proofs.CallLaws.{width-bounds, both-left, both-right, and-second}
+use Rattle.bits.proofs.Booleans.{both-left, both-right, and-second}
+use Rattle.fixnum.proofs.CallLaws.{width-bounds}
 use Rattle.fixnum.proofs.TableLaws.{from-to}
 use Rattle.fixnum.proofs.AnswerLaws.{reverse-answer, rotate-answer, rotate-no-fixnum, rotate-out-of-domain, one-answer, every-answer}
 

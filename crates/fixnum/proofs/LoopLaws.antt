@@ -1,5 +1,5 @@
 -- The loops over the arguments: what is still to be done after i turns, and one turn of it. Assumes nothing.
-use Prim.Native.Nat.{ℕ, zero, suc, _+_, _-_, _≤_, _<_, _^_}
+use Prim.Native.Nat.{ℕ, suc, _+_, _-_, _≤_, _<_, _^_}
 use native.Mathlib.Nat.{le-antisymm}
 use native.Mathlib.Numerals.{add-one}
 use native.Mathlib.Omega.{arith}
@@ -8,7 +8,7 @@ use mathlib.Core.Bool.{Bool, true, false, _&&_}
 use mathlib.Core.List.{List, [], _∷_}
 use lib.Dec.{eqb, leb}
 use lib.IntN.{ℤ, pos, negsuc}
-use lib.ListN.{length, take, drop, length-take}
+use lib.ListN.{length, take, drop, length-take, drop-of-length-le}
 use lib.Seq.{drop-cons, getD-take, length-take-le}
 use mir.Syntax.{w64}
 use mir.Val.{SFits, ofZ}
@@ -32,15 +32,9 @@ module _ (xs : List ℤ) (n : ℕ) (four : length xs ≡ 4) (few : n ≤ 4) wher
       ∙ ap (λ (x : ℤ). x ∷ drop (suc i) (take n xs)) (getD-take n xs i (pos 0) h)
       ∙ ap (λ (k : ℕ). arg xs i ∷ drop k (take n xs)) (sym (add-one i))
 
-drop-all : (ys : List ℤ) (i : ℕ) → length ys ≤ i → drop i ys ≡ []
-drop-all [] zero h = refl
-drop-all [] (suc i) h = refl
-drop-all (y ∷ ys) zero h = absurd (omega arith)
-drop-all (y ∷ ys) (suc i) h = drop-all ys i (omega arith)
-
 pub rest-none : (xs : List ℤ) (n i : ℕ) → n ≤ i → drop i (counted xs n) ≡ []
 unfolding counted
-rest-none xs n i h = drop-all (take n xs) i (omega (arith, length-take n xs))
+rest-none xs n i h = drop-of-length-le (take n xs) {i = i} (omega (arith, length-take n xs))
 
 -- one turn of each loop, and its end
 module _ (xs : List ℤ) (n : ℕ) (four : length xs ≡ 4) (few : n ≤ 4) where

@@ -18,7 +18,8 @@ use Rattle.fixnum.specs.Domains.{arg, Domain, inDomains}
 use Rattle.fixnum.specs.Table.{rows, rowOf}
 use Rattle.fixnum.specs.Steps.{domainsOf}
 use Rattle.fixnum.specs.Calls.{Accepted, counted, isCount}
-use Rattle.fixnum.proofs.CallLaws.{both-left, both-right, between, width-bounds, fits-arg}
+use Rattle.bits.proofs.Booleans.{both-left, both-right}
+use Rattle.fixnum.proofs.CallLaws.{between, width-bounds, fits-arg}
 use Rattle.fixnum.proofs.TableLaws.{few-domains, from-to}
 use Rattle.fixnum.proofs.DomainLaws.{division-domains, bit-domains, new-bit-domains, field-domains, signed-shift-domains, shift-domains, rotation-domains}
 

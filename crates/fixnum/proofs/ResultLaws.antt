@@ -25,7 +25,8 @@ use Rattle.bits.specs.Range.{within}
 use Rattle.fixnum.specs.Domains.{isWidth, arg, Domain, fixnum, divisor, position, fieldEnd, accepts, inDomainsFrom, inDomains}
 use Rattle.fixnum.specs.Operations.{every, one, two, three, four, question, truth, foldFrom, larger, smaller, largest, smallest, carry, copyBitAt}
 use Rattle.fixnum.specs.Calls.{allFixnums}
-use Rattle.fixnum.proofs.CallLaws.{both-left, both-right, between, width-bounds}
+use Rattle.bits.proofs.Booleans.{both-left, both-right}
+use Rattle.fixnum.proofs.CallLaws.{between, width-bounds}
 use Rattle.fixnum.proofs.ShiftLaws.{right-fits}
 use Rattle.fixnum.proofs.Demand3.{all-fits}
 

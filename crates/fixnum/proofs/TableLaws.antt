@@ -11,7 +11,8 @@ use borrow.Author.Tests.{leb-true, eqb-true, eqb-false}
 use Rattle.fixnum.specs.Domains.{Domain}
 use Rattle.fixnum.specs.Table.{Row, rows, noRow, isCode, rowOf}
 use Rattle.fixnum.specs.Calls.{isCount}
-use Rattle.fixnum.proofs.CallLaws.{both-left, both-right, between}
+use Rattle.bits.proofs.Booleans.{both-left, both-right}
+use Rattle.fixnum.proofs.CallLaws.{between}
 
 abbrev allRows : (Row → Bool) → List Row → Bool
 allRows p [] = true

@@ -8,7 +8,7 @@ use mathlib.Core.List.{List, [], _∷_, _++_, append-assoc, append-nil}
 use mathlib.Core.Bool.{true}
 use lib.Dec.{leb}
 use lib.IntN.{ℤ}
-use lib.ListN.{length, take, drop, set, getD, length-set, length-drop}
+use lib.ListN.{length, take, drop, set, getD, length-set, length-drop, drop-of-length-le}
 use lib.Seq.{drop-cons, drop-drop, take-all, set-at}
 use Rattle.bits.specs.Shift.{shiftRight}
 use Rattle.bits.specs.Division.{modℕ}
@@ -80,12 +80,6 @@ turn-all {z} {first} {part} {from} t h = subst (λ (k : ℕ). Continues z first 
 
 -- ---- the answer of a call that has its integer
 
-drop-all : (n : ℕ) (l : List ℕ) → length l ≤ n → drop n l ≡ []
-drop-all zero [] h = refl
-drop-all zero (x ∷ l) h = absurd (omega arith)
-drop-all (suc n) [] h = refl
-drop-all (suc n) (x ∷ l) h = drop-all n l (omega arith)
-
 module _ (z : ℤ) (out : List ℕ) (first n : ℕ) (counted : n ≡ limbCount z) where
   -- no room: nothing is written
   pub no-room : length out - first < n → (written (integer z) out first ≡ refusal 8) × (afterwards (integer z) out first ≡ out)
@@ -119,5 +113,5 @@ module _ (z : ℤ) (out : List ℕ) (first n : ℕ) (counted : n ≡ limbCount z
     unfolding afterwards fitsIn room laid
     laid-buffer =
         rw yes
-        (ap (λ (l : List ℕ). take first out ++ (part ++ l)) (drop-all (length out - first) (drop first out) (omega (arith, length-drop first out)))
+        (ap (λ (l : List ℕ). take first out ++ (part ++ l)) (drop-of-length-le (drop first out) {i = length out - first} (omega (arith, length-drop first out)))
         ∙ ap (λ (l : List ℕ). take first out ++ l) (append-nil part ∙ limbs-part))

@@ -2,7 +2,7 @@
 -- Assumes nothing.
 use Prim.Native.Nat.{ℕ, _*_, _-_, _≤_, _<_}
 use native.Mathlib.Omega.{arith}
-use mathlib.Core.Path.{_≡_, refl, sym, ap, ap₂, _∙_, subst}
+use mathlib.Core.Path.{_≡_, sym, ap, ap₂, _∙_, subst}
 use mathlib.Core.Bool.{Bool, true, false, cond, _&&_, _||_}
 use mathlib.Core.List.{List}
 use lib.Dec.{leb}
@@ -11,6 +11,7 @@ use lib.ListN.{length}
 use borrow.Author.Tests.{leb-true}
 use Rattle.bits.specs.Testbit.{bitLength}
 use Rattle.bits.specs.Logical.{bitwise, bitwiseNot, bitwiseAnd, bitwiseIor, bitwiseIf}
+use Rattle.bits.proofs.Booleans.{both-left}
 use Rattle.bits.proofs.TestbitLaws.{testbit-above}
 use Rattle.bits.proofs.LengthLaws.{bitLength-least-bits, bitLength-not}
 use Rattle.bits.proofs.LogicalLaws.{testbit-bitwise, isNegative-bitwise}
@@ -40,11 +41,7 @@ operand-failed xs o h = failed (isOperand xs) 7 o h
 
 pub operand-length : (xs : List ℕ) → isOperand xs ≡ true → 0 < length xs
 unfolding isOperand
-operand-length xs h = leb-true 1 (length xs) (left (leb 1 (length xs)) (leb (length xs) mostLimbs) h)
-  where
-    left : (a b : Bool) → a && b ≡ true → a ≡ true
-    left true b e = refl
-    left false b e = e
+operand-length xs h = leb-true 1 (length xs) (both-left (leb 1 (length xs)) (leb (length xs) mostLimbs) h)
 
 -- ---- answers
 

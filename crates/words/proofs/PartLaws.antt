@@ -1,7 +1,7 @@
 -- The parts of an integer at a width: s mod0 2^w and s div0 2^w from its sign and from the quotient and the remainder of its absolute
 -- value by 2^w. Assumes nothing.
 use Prim.Native.Nat.{ℕ, zero, suc, _+_, _*_, _-_, _/_, _%_, _≤_, _<_, _^_}
-use native.Mathlib.Nat.{mod-lt, mod-eq-of-lt, pow-suc, lt-of-lt-of-le}
+use native.Mathlib.Nat.{mod-lt, mod-eq-of-lt, lt-of-lt-of-le}
 use native.Mathlib.Omega.{arith}
 use mathlib.Core.Path.{_≡_, sym, ap, _∙_, subst}
 use mathlib.Core.Bool.{Bool, true, false, not}
@@ -17,16 +17,12 @@ use Rattle.bits.specs.Division.{div0, mod0}
 use Rattle.bits.proofs.DivisionLaws.{div0-mod0-unique}
 use Rattle.words.specs.declared.wide.Wide.{Wide}
 use Rattle.words.specs.Wide.{wideValue}
+use Rattle.bits.proofs.FitsLaws.{double}
 use Rattle.words.proofs.WordLaws.{fits-mag, fits-negative, fits-nonnegative}
 use Rattle.words.proofs.WideLaws.{wide-absolute, wide-sign}
 use Rattle.words.proofs.SignedLaws.{withSign-add, withSign-sub, withSign-times}
 
 -- ---- a remainder that fits w is that of mod0 by 2^w
-
--- 2^w is twice 2^(w-1)
-double : (w : ℕ) → 0 < w → 2 ^ w ≡ 2 * 2 ^ (w - 1)
-double zero h = absurd (omega arith)
-double (suc w) h = let e : suc w - 1 ≡ w = omega arith in rw e (omega (arith, pow-suc 2 w))
 
 negℤ-le : (a b : ℕ) → b ≤ a → T (leZ (negℤ (pos a)) (negℤ (pos b)))
 negℤ-le zero zero h = tt

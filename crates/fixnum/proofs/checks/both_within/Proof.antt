@@ -1,7 +1,7 @@
 -- `fixnum::checks::both_within` meets its contract. Assumes nothing.
 use mathlib.Core.Path.{sym, _∙_}
 use Rattle.words.proofs.WordLaws.{back}
-use Rattle.fixnum.proofs.CallLaws.{and-first, and-second}
+use Rattle.bits.proofs.Booleans.{and-first, and-second}
 use borrow.Author.Needs.{needs}
 use Rattle.fixnum.proofs.checks.both_within.Statement.{statement}
 use Rattle.fixnum.proofs.checks.both_within.Tie as tie

@@ -2,7 +2,7 @@
 use lib.Dec.{leb}
 use borrow.Author.Tests.{le-leb, lt-leb}
 use Rattle.fixnum.specs.Table.{isCode, rows}
-use Rattle.fixnum.proofs.CallLaws.{and-first, and-second}
+use Rattle.bits.proofs.Booleans.{and-first, and-second}
 use Rattle.fixnum.proofs.checks.is_code.Statement.{statement}
 use Rattle.fixnum.proofs.checks.is_code.Tie as tie
 

@@ -6,7 +6,7 @@ use lib.Dec.{leb}
 use borrow.Author.Tests.{le-leb, lt-leb}
 use Rattle.fixnum.specs.Table.{rows, rowOf}
 use Rattle.fixnum.specs.Calls.{isCount}
-use Rattle.fixnum.proofs.CallLaws.{and-first, and-second}
+use Rattle.bits.proofs.Booleans.{and-first, and-second}
 use Rattle.fixnum.proofs.TableLaws.{code-bounds, counts-column}
 use Rattle.fixnum.proofs.checks.is_count.Statement.{statement}
 use Rattle.fixnum.proofs.checks.is_count.Tie as tie

@@ -7,7 +7,7 @@ use mir.Syntax.{w64}
 use mir.Val.{SFits}
 use Rattle.words.proofs.WordLaws.{back}
 use Rattle.bits.specs.Range.{within}
-use Rattle.fixnum.proofs.CallLaws.{both-left, both-right, and-first, and-second}
+use Rattle.bits.proofs.Booleans.{both-left, both-right, and-first, and-second}
 use Rattle.fixnum.proofs.DomainLaws.{field-size}
 use borrow.Author.Needs.{needs}
 use Rattle.fixnum.proofs.checks.is_rotation.Statement.{statement}

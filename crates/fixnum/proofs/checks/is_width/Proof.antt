@@ -2,7 +2,7 @@
 use lib.Dec.{leb}
 use borrow.Author.Tests.{le-leb, lt-leb}
 use Rattle.fixnum.specs.Domains.{isWidth, leastWidth, largestWidth}
-use Rattle.fixnum.proofs.CallLaws.{and-first, and-second}
+use Rattle.bits.proofs.Booleans.{and-first, and-second}
 use Rattle.fixnum.proofs.checks.is_width.Statement.{statement}
 use Rattle.fixnum.proofs.checks.is_width.Tie as tie
 

@@ -6,7 +6,7 @@ use mir.Syntax.{w64}
 use mir.Val.{SFits, toZ, ofZ}
 use Rattle.words.proofs.WordLaws.{back}
 use Rattle.bits.specs.Range.{within}
-use Rattle.fixnum.proofs.CallLaws.{and-first, and-second}
+use Rattle.bits.proofs.Booleans.{and-first, and-second}
 use Rattle.fixnum.proofs.checks.within.Statement.{statement}
 use Rattle.fixnum.proofs.checks.within.Tie as tie
 
