@@ -2,7 +2,7 @@
 use Prim.Native.Nat.{ℕ, _+_, _*_, _-_, _/_, _%_, _^_, _≤_, _<_}
 use native.Mathlib.Nat.{mod-lt}
 use native.Mathlib.Omega.{arith}
-use mathlib.Core.Path.{_≡_, refl, sym, ap, _∙_}
+use mathlib.Core.Path.{_≡_, refl, sym, ap, ap₂, _∙_}
 use mathlib.Core.Bool.{Bool, true, false, cond, not}
 use mathlib.Core.List.{List, [], _∷_}
 use lib.Dec.{eqb, ltb, lit<}
@@ -97,3 +97,10 @@ bitsFrom-join z j k h =
         let g = ltb-false (k + t) 32 e in
         let q : 32 * (j + 1) + (k + t - 32) ≡ 32 * j + k + t = omega arith in
         testbit-bitsFrom z (32 * (j + 1)) (k + t - 32) (omega arith) ∙ ap (testbit z) q
+
+-- the same of two limbs of an operand
+pub window-value : (xs : List ℕ) (j k : ℕ) → ((i : ℕ) → getD xs i 0 < 2 ^ 32) → j + 1 < length xs → k < 32
+    → (getD xs (j + 1) 0 * 2 ^ 32 + getD xs j 0) / 2 ^ k % 2 ^ 32 ≡ bitsFrom (value xs) (32 * j + k)
+window-value xs j k b h l =
+    ap₂ (λ (high low : ℕ). (high * 2 ^ 32 + low) / 2 ^ k % 2 ^ 32) (limb-value xs (j + 1) b h) (limb-value xs j b (omega arith))
+    ∙ bitsFrom-join (value xs) j k l

@@ -6,20 +6,20 @@
 --   written o out first        ==  the answer
 --   afterwards o out first     ==  the buffer afterwards: as it was, unless the call is done
 --   Writes o out first r out′  ==  r is the answer, and out′ the buffer afterwards
---   Begun z before part i      ==  part holds the first i limbs of z, and from there on what was in `before`
---   Continues z a b from to    ==  where a holds the first `from` limbs of z, b holds the first `to`, and the rest is as it was
+--   Puts f a b from to         ==  b is a, but for the limbs from one index up to, but not at, another: limb j of them is f j
+--   checked k o                ==  o where the refusal number k is 0, else that refusal
 --   number o                   ==  the answer of a call that writes nothing
 -- The shortest limbs are written, or refusal 8 is given where they do not fit.
-use Prim.Native.Nat.{ℕ, _+_, _-_}
+use Prim.Native.Nat.{ℕ, _+_, _-_, _≤_, _<_}
 use mathlib.Core.Path.{_≡_}
 use mathlib.Core.Bool.{Bool, cond}
 use mathlib.Core.List.{List, _++_}
-use lib.Dec.{leb}
+use lib.Dec.{eqb, leb}
 use lib.IntN.{ℤ, pos}
-use lib.ListN.{length, take, drop}
+use lib.ListN.{length, getD, take, drop}
 use Rattle.limbs.specs.declared.Written.{Written}
 use Rattle.limbs.specs.declared.Number.{Number}
-use Rattle.limbs.specs.Value.{limbsOf, shortest}
+use Rattle.limbs.specs.Value.{shortest}
 
 pub data Outcome : Type 0 where
   refused : ℕ → Outcome
@@ -27,6 +27,9 @@ pub data Outcome : Type 0 where
 
 unfoldable pub unless : Bool → ℕ → Outcome → Outcome
 unless test k outcome = cond test outcome (refused k)
+
+unfoldable pub checked : ℕ → Outcome → Outcome
+checked k outcome = cond (eqb k 0) outcome (refused k)
 
 unfoldable pub room : List ℕ → ℕ → ℕ
 room out first = length out - first
@@ -53,12 +56,11 @@ pub record Writes (o : Outcome) (out : List ℕ) (first : ℕ) (r : Written) (ou
   pub answer : r ≡ written o out first
   pub buffer : out′ ≡ afterwards o out first
 
-pub record Begun (z : ℤ) (before part : List ℕ) (i : ℕ) : Type 0 where
-  pub limbs : part ≡ limbsOf i z ++ drop i before
-  pub size : length part ≡ length before
-
-abbrev pub Continues : ℤ → List ℕ → List ℕ → ℕ → ℕ → Type 0
-Continues z a b from to = (before : List ℕ) → Begun z before a from → Begun z before b to
+pub record Puts (f : ℕ → ℕ) (a b : List ℕ) (from to : ℕ) : Type 0 where
+  pub size : length b ≡ length a
+  pub inside : (j : ℕ) → from ≤ j → j < to → getD b j 0 ≡ f j
+  pub below : (j : ℕ) → j < from → getD b j 0 ≡ getD a j 0
+  pub above : (j : ℕ) → to ≤ j → getD b j 0 ≡ getD a j 0
 
 unfoldable pub number : Outcome → Number
 number (refused k) = record { refusal = k; value = pos 0 }

@@ -8,16 +8,18 @@ ghost use mathlib.Core.Bool.{_&&_, _||_, xor};
 ghost use Rattle.limbs.specs.Buffer.{Writes};
 ghost use Rattle.limbs.specs.Operations.{notOutcome, bitwiseOutcome, ifOutcome};
 
+mod index;
 mod limb;
 mod logical;
 mod measure;
 mod operand;
 mod result;
 mod run;
+mod segment;
 
+use index::most;
 use operand::combine_operands;
 use operand::is_operand;
-use operand::most;
 use result::Logic;
 use result::Operation;
 use run::refuse;

@@ -1,19 +1,20 @@
 // The logical operations, limb by limb.
 ghost use mathlib.Core.Path.{_≡_};
-ghost use Prim.Native.Nat.{ℕ, _*_, _<_, _≤_};
+ghost use Prim.Native.Nat.{ℕ, _<_, _≤_};
 ghost use lib.IntN.{pos};
 ghost use lib.ListN.{length};
 ghost use Rattle.bits.specs.Testbit.{testbit};
 ghost use Rattle.bits.specs.Logical.{bitwiseNot, bitwise, bitwiseIf};
-ghost use Rattle.limbs.specs.Value.{value, bitsFrom};
-ghost use Rattle.limbs.specs.Buffer.{Continues};
+ghost use Rattle.limbs.specs.Value.{value, limbAt};
+ghost use Rattle.limbs.specs.Buffer.{Puts};
 ghost use Rattle.limbs.specs.Results.{logicOf};
+use super::index::least;
 use super::limb::limb;
 use super::result::Logic;
 
 pub fn not_limb(x: &[u32], j: usize) -> u32
     requires { ⌜ 0 < length (now x) ⌝ }
-    ensures { λ r. ⌜ r ≡ bitsFrom (bitwiseNot (value (now (x .entry)))) (32 * j) ⌝ }
+    ensures { λ r. ⌜ r ≡ limbAt (bitwiseNot (value (now (x .entry)))) j ⌝ }
 {
     !limb(x, j)
 }
@@ -31,7 +32,7 @@ fn combine(by: Logic, a: u32, b: u32) -> u32
 pub fn logical_limb(by: Logic, x: &[u32], y: &[u32], j: usize) -> u32
     requires { ⌜ 0 < length (now x) ⌝ }
     requires { ⌜ 0 < length (now y) ⌝ }
-    ensures { λ r. ⌜ r ≡ bitsFrom (bitwise (logicOf by) (value (now (x .entry))) (value (now (y .entry)))) (32 * j) ⌝ }
+    ensures { λ r. ⌜ r ≡ limbAt (bitwise (logicOf by) (value (now (x .entry))) (value (now (y .entry)))) j ⌝ }
 {
     combine(by, limb(x, j), limb(y, j))
 }
@@ -40,7 +41,7 @@ pub fn if_limb(x: &[u32], y: &[u32], z: &[u32], j: usize) -> u32
     requires { ⌜ 0 < length (now x) ⌝ }
     requires { ⌜ 0 < length (now y) ⌝ }
     requires { ⌜ 0 < length (now z) ⌝ }
-    ensures { λ r. ⌜ r ≡ bitsFrom (bitwiseIf (value (now (x .entry))) (value (now (y .entry))) (value (now (z .entry)))) (32 * j) ⌝ }
+    ensures { λ r. ⌜ r ≡ limbAt (bitwiseIf (value (now (x .entry))) (value (now (y .entry))) (value (now (z .entry)))) j ⌝ }
 {
     let m = limb(x, j);
     (m & limb(y, j)) | (!m & limb(z, j))
@@ -50,7 +51,7 @@ pub fn if_limb(x: &[u32], y: &[u32], z: &[u32], j: usize) -> u32
 pub fn write_not(x: &[u32], from: usize, to: usize, part: &mut [u32])
     requires { ⌜ 0 < length (now x) ⌝ }
     requires { ⌜ (from ≤ to) × (to ≤ length (now part)) ⌝ }
-    ensures { λ r. ⌜ Continues (bitwiseNot (value (now (x .entry)))) (now (part .entry)) (now (part .exit)) from to ⌝ }
+    ensures { λ r. ⌜ Puts (limbAt (bitwiseNot (value (now (x .entry))))) (now (part .entry)) (now (part .exit)) from to ⌝ }
 {
     let mut j = from;
     while j < to {
@@ -62,7 +63,7 @@ pub fn write_not(x: &[u32], from: usize, to: usize, part: &mut [u32])
 // Limbs that both operands have.
 fn write_common(by: Logic, x: &[u32], y: &[u32], to: usize, part: &mut [u32])
     requires { ⌜ (to ≤ length (now x)) × (to ≤ length (now y)) × (to ≤ length (now part)) ⌝ }
-    ensures { λ r. ⌜ Continues (bitwise (logicOf by) (value (now (x .entry))) (value (now (y .entry)))) (now (part .entry)) (now (part .exit)) 0 to ⌝ }
+    ensures { λ r. ⌜ Puts (limbAt (bitwise (logicOf by) (value (now (x .entry))) (value (now (y .entry))))) (now (part .entry)) (now (part .exit)) 0 to ⌝ }
 {
     let mut j = 0;
     while j < to {
@@ -74,7 +75,7 @@ fn write_common(by: Logic, x: &[u32], y: &[u32], to: usize, part: &mut [u32])
 fn write_padded(by: Logic, x: &[u32], y: &[u32], from: usize, to: usize, part: &mut [u32])
     requires { ⌜ (0 < length (now x)) × (0 < length (now y)) ⌝ }
     requires { ⌜ (from ≤ to) × (to ≤ length (now part)) ⌝ }
-    ensures { λ r. ⌜ Continues (bitwise (logicOf by) (value (now (x .entry))) (value (now (y .entry)))) (now (part .entry)) (now (part .exit)) from to ⌝ }
+    ensures { λ r. ⌜ Puts (limbAt (bitwise (logicOf by) (value (now (x .entry))) (value (now (y .entry))))) (now (part .entry)) (now (part .exit)) from to ⌝ }
 {
     let mut j = from;
     while j < to {
@@ -83,16 +84,10 @@ fn write_padded(by: Logic, x: &[u32], y: &[u32], from: usize, to: usize, part: &
     }
 }
 
-fn least(a: usize, b: usize) -> usize
-    ensures { λ r. ⌜ (r ≤ a) × (r ≤ b) ⌝ }
-{
-    if a < b { a } else { b }
-}
-
 pub fn write_logical(by: Logic, x: &[u32], y: &[u32], to: usize, part: &mut [u32])
     requires { ⌜ (0 < length (now x)) × (0 < length (now y)) ⌝ }
     requires { ⌜ to ≤ length (now part) ⌝ }
-    ensures { λ r. ⌜ Continues (bitwise (logicOf by) (value (now (x .entry))) (value (now (y .entry)))) (now (part .entry)) (now (part .exit)) 0 to ⌝ }
+    ensures { λ r. ⌜ Puts (limbAt (bitwise (logicOf by) (value (now (x .entry))) (value (now (y .entry))))) (now (part .entry)) (now (part .exit)) 0 to ⌝ }
 {
     let common = least(to, least(x.len(), y.len()));
     write_common(by, x, y, common, part);
@@ -102,7 +97,7 @@ pub fn write_logical(by: Logic, x: &[u32], y: &[u32], to: usize, part: &mut [u32
 pub fn write_if(x: &[u32], y: &[u32], z: &[u32], from: usize, to: usize, part: &mut [u32])
     requires { ⌜ (0 < length (now x)) × (0 < length (now y)) × (0 < length (now z)) ⌝ }
     requires { ⌜ (from ≤ to) × (to ≤ length (now part)) ⌝ }
-    ensures { λ r. ⌜ Continues (bitwiseIf (value (now (x .entry))) (value (now (y .entry))) (value (now (z .entry)))) (now (part .entry)) (now (part .exit)) from to ⌝ }
+    ensures { λ r. ⌜ Puts (limbAt (bitwiseIf (value (now (x .entry))) (value (now (y .entry))) (value (now (z .entry))))) (now (part .entry)) (now (part .exit)) from to ⌝ }
 {
     let mut j = from;
     while j < to {

@@ -4,7 +4,7 @@ ghost use Prim.Native.Nat.{_*_, _<_, _≤_};
 ghost use lib.Dec.{eqb};
 ghost use lib.ListN.{length};
 ghost use Rattle.bits.specs.Testbit.{bitLength};
-ghost use Rattle.limbs.specs.Value.{value, bitsFrom, limbCount};
+ghost use Rattle.limbs.specs.Value.{value, limbAt, limbCount};
 ghost use Rattle.limbs.specs.Results.{meaning, continued};
 use super::logical::if_limb;
 use super::logical::logical_limb;
@@ -15,7 +15,7 @@ fn limb_of(operation: Operation, x: &[u32], y: &[u32], z: &[u32], j: usize) -> u
     requires { ⌜ 0 < length (now x) ⌝ }
     requires { ⌜ 0 < length (now y) ⌝ }
     requires { ⌜ 0 < length (now z) ⌝ }
-    ensures { λ r. ⌜ r ≡ bitsFrom (meaning operation (value (now (x .entry))) (value (now (y .entry))) (value (now (z .entry)))) (32 * j) ⌝ }
+    ensures { λ r. ⌜ r ≡ limbAt (meaning operation (value (now (x .entry))) (value (now (y .entry))) (value (now (z .entry)))) j ⌝ }
 {
     match operation {
         Operation::Not => not_limb(x, j),

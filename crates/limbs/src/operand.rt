@@ -5,6 +5,7 @@ ghost use Rattle.limbs.specs.Buffer.{Writes};
 ghost use Rattle.limbs.specs.Operations.{isOperand, bitwiseOutcome};
 ghost use Rattle.limbs.specs.Results.{logicOf};
 use super::Written;
+use super::index::most;
 use super::result::Logic;
 use super::result::Operation;
 use super::run::refuse;
@@ -16,12 +17,6 @@ pub fn is_operand(x: &[u32]) -> bool
     ensures { λ r. ⌜ r ≡ isOperand (now (x .entry)) ⌝ }
 {
     1 <= x.len() && x.len() <= MOST_LIMBS
-}
-
-pub fn most(a: usize, b: usize) -> usize
-    ensures { λ r. ⌜ (a ≤ r) × (b ≤ r) ⌝ }
-{
-    if a < b { b } else { a }
 }
 
 pub fn combine_operands(by: Logic, x: &[u32], y: &[u32], out: &mut [u32], first: u64) -> Written

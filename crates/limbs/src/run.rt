@@ -3,8 +3,8 @@ ghost use mathlib.Core.Path.{_≡_};
 ghost use Prim.Native.Nat.{_*_, _<_, _≤_};
 ghost use lib.ListN.{length};
 ghost use Rattle.bits.specs.Testbit.{bitLength};
-ghost use Rattle.limbs.specs.Value.{value};
-ghost use Rattle.limbs.specs.Buffer.{Continues, Writes, integer, refusal};
+ghost use Rattle.limbs.specs.Value.{value, limbAt};
+ghost use Rattle.limbs.specs.Buffer.{Puts, Writes, integer, refusal};
 ghost use Rattle.limbs.specs.Results.{meaning};
 use super::Written;
 use super::logical::write_if;
@@ -28,7 +28,7 @@ fn write(operation: Operation, x: &[u32], y: &[u32], z: &[u32], n: usize, part: 
     requires { ⌜ 0 < length (now y) ⌝ }
     requires { ⌜ 0 < length (now z) ⌝ }
     requires { ⌜ n ≤ length (now part) ⌝ }
-    ensures { λ r. ⌜ Continues (meaning operation (value (now (x .entry))) (value (now (y .entry))) (value (now (z .entry)))) (now (part .entry)) (now (part .exit)) 0 n ⌝ }
+    ensures { λ r. ⌜ Puts (limbAt (meaning operation (value (now (x .entry))) (value (now (y .entry))) (value (now (z .entry))))) (now (part .entry)) (now (part .exit)) 0 n ⌝ }
 {
     match operation {
         Operation::Not => write_not(x, 0, n, part),

@@ -6,7 +6,7 @@ use lib.IntN.{pos}
 use borrow.Author.Needs.{needs}
 use Rattle.bits.specs.Testbit.{testbit}
 use Rattle.bits.specs.Logical.{bitwise}
-use Rattle.limbs.specs.Value.{value, bitsFrom}
+use Rattle.limbs.specs.Value.{value, limbAt}
 use Rattle.limbs.specs.Results.{logicOf}
 use Rattle.limbs.proofs.LimbLaws.{limb-value}
 use Rattle.limbs.proofs.LogicalLaws.{bitsFrom-bitwise}
@@ -15,7 +15,7 @@ use Rattle.limbs.proofs.logical.write_common.Statement.{statement}
 use Rattle.limbs.proofs.logical.write_common.Tie as tie
 
 abbrev Inv-loop : tie.InvT-loop
-Inv-loop by x y to part₀ j₀ part j = Turn (bitwise (logicOf by) (value x) (value y)) part₀ part 0 to j
+Inv-loop by x y to part₀ j₀ part j = Turn (limbAt (bitwise (logicOf by) (value x) (value y))) part₀ part 0 to j
 
 abbrev μ-loop : tie.MeasureT-loop
 μ-loop by x y to part₀ j₀ part j = to - j
@@ -62,7 +62,7 @@ loop-again c =
     (c .before .before .before .loop-test .taken) (omega arith)
 
 same-length : tie.Need-same-length Inv-loop μ-loop
-same-length c = c .before .loop .inv .size
+same-length c = c .before .loop .inv .so-far .size
 
 returns : tie.Need-returns Inv-loop μ-loop
 returns c = turn-all (c .before .loop .inv) (c .loop-test .left)

@@ -1,4 +1,6 @@
 -- `limbs::logical::write_logical` meets its contract: the second writer goes on where the first ends. Assumes nothing.
+use native.Mathlib.Omega.{arith}
+use Rattle.limbs.proofs.BufferLaws.{puts-join}
 use borrow.Author.Needs.{needs}
 use Rattle.limbs.proofs.logical.write_logical.Statement.{statement}
 use Rattle.limbs.proofs.logical.write_logical.Tie as tie
@@ -19,7 +21,9 @@ same-length : tie.Need-same-length
 same-length c = search needs
 
 returns : tie.Need-returns
-returns c before w = c .before .before .write-padded .ensures before (c .before .before .before .before .before .before .write-common .ensures before w)
+returns c =
+    puts-join (c .before .before .before .before .before .before .write-common .ensures) (c .before .before .write-padded .ensures) (omega arith)
+    (c .before .before .before .before .before .before .before .before .least2 .ensures .0)
 
 pub write-logical-spec : {M : Type 1} → statement M
 write-logical-spec =

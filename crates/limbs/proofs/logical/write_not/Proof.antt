@@ -2,13 +2,13 @@
 use Prim.Native.Nat.{_-_}
 use native.Mathlib.Omega.{arith}
 use Rattle.bits.specs.Logical.{bitwiseNot}
-use Rattle.limbs.specs.Value.{value}
+use Rattle.limbs.specs.Value.{value, limbAt}
 use Rattle.limbs.proofs.BufferLaws.{Turn, turn-none, turn-more, turn-all}
 use Rattle.limbs.proofs.logical.write_not.Statement.{statement}
 use Rattle.limbs.proofs.logical.write_not.Tie as tie
 
 abbrev Inv-loop : tie.InvT-loop
-Inv-loop x from to part₀ j₀ part j = Turn (bitwiseNot (value x)) part₀ part from to j
+Inv-loop x from to part₀ j₀ part j = Turn (limbAt (bitwiseNot (value x))) part₀ part from to j
 
 abbrev μ-loop : tie.MeasureT-loop
 μ-loop x from to part₀ j₀ part j = to - j
@@ -35,7 +35,7 @@ loop-again : tie.Need-loop-again Inv-loop μ-loop
 loop-again c = turn-more _ (c .before .before .loop .inv) (c .not-limb .ensures) (c .before .loop-test .taken) (omega arith)
 
 same-length : tie.Need-same-length Inv-loop μ-loop
-same-length c = c .before .loop .inv .size
+same-length c = c .before .loop .inv .so-far .size
 
 returns : tie.Need-returns Inv-loop μ-loop
 returns c = turn-all (c .before .loop .inv) (c .loop-test .left)

@@ -5,7 +5,7 @@ use lib.IntN.{ℤ}
 use Rattle.limbs.specs.Value.{value}
 use Rattle.limbs.specs.Results.{meaning}
 use Rattle.limbs.proofs.ValueLaws.{limbCount-positive}
-use Rattle.limbs.proofs.BufferLaws.{begun-none, no-room, laid-answer, laid-buffer}
+use Rattle.limbs.proofs.BufferLaws.{no-room, laid-answer, laid-buffer}
 use borrow.Author.Needs.{needs}
 use Rattle.limbs.proofs.run.run.Statement.{statement}
 use Rattle.limbs.proofs.run.run.Tie as tie
@@ -62,7 +62,7 @@ returns-3 : tie.Need-returns-3
 returns-3 c =
     let a = c .before .before .before .before .before .before in
     let n = a .measure in
-    let w = c .before .before .write .ensures _ (begun-none _ _) in
+    let w = c .before .before .write .ensures in
     record {
       answer = laid-answer _ _ _ (n .result) (n .ensures) _ (omega arith) (omega arith) w;
       buffer = laid-buffer _ _ _ (n .result) (n .ensures) _ (omega arith) (omega arith) w;

@@ -4,7 +4,8 @@ use mathlib.Core.Path.{_≡_, sym, subst}
 use mathlib.Core.List.{List}
 use lib.IntN.{ℤ}
 use Rattle.limbs.specs.declared.result.Operation.{Operation}
-use Rattle.limbs.specs.Buffer.{Continues}
+use Rattle.limbs.specs.Value.{limbAt}
+use Rattle.limbs.specs.Buffer.{Puts}
 use Rattle.limbs.specs.Results.{meaning}
 use borrow.Author.Needs.{needs}
 use Rattle.limbs.proofs.run.write.Statement.{statement}
@@ -32,8 +33,8 @@ same-length : tie.Need-same-length
 same-length c = search needs
 
 -- the operation that an arm of the match stands for
-arm : (x y z : ℤ) (p q : List ℕ) (n : ℕ) {o r : Operation} → o ≡ r → Continues (meaning r x y z) p q 0 n → Continues (meaning o x y z) p q 0 n
-arm x y z p q n e = subst (λ (r : Operation). Continues (meaning r x y z) p q 0 n) (sym e)
+arm : (x y z : ℤ) (p q : List ℕ) (n : ℕ) {o r : Operation} → o ≡ r → Puts (limbAt (meaning r x y z)) p q 0 n → Puts (limbAt (meaning o x y z)) p q 0 n
+arm x y z p q n e = subst (λ (r : Operation). Puts (limbAt (meaning r x y z)) p q 0 n) (sym e)
 
 returns : tie.Need-returns
 unfolding meaning

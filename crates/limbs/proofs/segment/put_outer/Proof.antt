@@ -1,0 +1,69 @@
+-- `limbs::segment::put_outer` meets its contract, turn by turn. Assumes nothing.
+use native.Mathlib.Omega.{arith}
+use Prim.Native.Nat.{_+_, _*_, _-_}
+use Rattle.limbs.specs.Value.{value, bitsFrom}
+use Rattle.limbs.proofs.BufferLaws.{Turn, turn-none, turn-more, turn-all}
+use borrow.Author.Needs.{needs}
+use Rattle.limbs.proofs.segment.put_outer.Statement.{statement}
+use Rattle.limbs.proofs.segment.put_outer.Tie as tie
+
+abbrev Inv-loop : tie.InvT-loop
+Inv-loop x at from to part₀ j₀ part j = Turn (λ i. bitsFrom (value x) (at + 32 * (i - from))) part₀ part from to j
+
+abbrev μ-loop : tie.MeasureT-loop
+μ-loop x at from to part₀ j₀ part j = to - j
+
+loop-holds : tie.Need-loop-holds Inv-loop μ-loop
+loop-holds c = turn-none _ _ _ _ (omega arith)
+
+sub-window : tie.Need-sub-window Inv-loop μ-loop
+sub-window c = c .before .loop .inv .low
+
+mul-window : tie.Need-mul-window Inv-loop μ-loop
+mul-window c = omega arith
+
+add-window : tie.Need-add-window Inv-loop μ-loop
+add-window c = omega arith
+
+window-requires : tie.Need-window-requires Inv-loop μ-loop
+window-requires c κs = search needs
+
+mul-part : tie.Need-mul-part Inv-loop μ-loop
+mul-part c = omega arith
+
+slice-write-part : tie.Need-slice-write-part Inv-loop μ-loop
+slice-write-part c = omega arith
+
+add-j : tie.Need-add-j Inv-loop μ-loop
+add-j c = omega arith
+
+loop-less : tie.Need-loop-less Inv-loop μ-loop
+loop-less c = omega arith
+
+loop-again : tie.Need-loop-again Inv-loop μ-loop
+loop-again c = turn-more _ (c .before .before .loop .inv) (c .window .ensures) (c .before .loop-test .taken) (omega arith)
+
+same-length : tie.Need-same-length Inv-loop μ-loop
+same-length c = c .before .loop .inv .so-far .size
+
+returns : tie.Need-returns Inv-loop μ-loop
+returns c = turn-all (c .before .loop .inv) (c .loop-test .left)
+
+pub put-outer-spec : {M : Type 1} → statement M
+put-outer-spec =
+    tie.close
+    (tie.spec
+    Inv-loop
+    μ-loop
+    loop-holds
+    sub-window
+    mul-window
+    add-window
+    window-requires
+    mul-part
+    slice-write-part
+    add-j
+    loop-less
+    loop-again
+    same-length
+    returns)

@@ -1,0 +1,63 @@
+// Limbs put into a part of the output buffer, from one index up to, but not at, another.
+ghost use mathlib.Core.Path.{_≡_};
+ghost use Prim.Native.Nat.{_+_, _*_, _-_, _<_, _≤_, _^_};
+ghost use lib.ListN.{length};
+ghost use Rattle.limbs.specs.Value.{value, bitsFrom};
+ghost use Rattle.limbs.specs.Buffer.{Puts};
+use super::index::gap;
+use super::index::least;
+use super::limb::join;
+use super::limb::window;
+
+pub fn put_zeros(from: usize, to: usize, part: &mut [u32])
+    requires { ⌜ (from ≤ to) × (to ≤ length (now part)) ⌝ }
+    ensures { λ r. ⌜ Puts (λ j. 0) (now (part .entry)) (now (part .exit)) from to ⌝ }
+{
+    let mut j = from;
+    while j < to {
+        part[j] = 0;
+        j += 1;
+    }
+}
+
+// Windows of x from bit k of limb i on, one for each limb, that lie in x.
+fn put_inner(x: &[u32], i: usize, k: u64, from: usize, to: usize, part: &mut [u32])
+    requires { ⌜ k < 32 ⌝ }
+    requires { ⌜ (from ≤ to) × (to ≤ length (now part)) ⌝ }
+    requires { ⌜ to - from ≤ length (now x) - (i + 1) ⌝ }
+    ensures { λ r. ⌜ Puts (λ j. bitsFrom (value (now (x .entry))) (32 * i + k + 32 * (j - from))) (now (part .entry)) (now (part .exit)) from to ⌝ }
+{
+    let mut j = from;
+    while j < to {
+        part[j] = join(x[i + (j - from)], x[i + (j - from) + 1], k);
+        j += 1;
+    }
+}
+
+// The same, also past the last limb.
+fn put_outer(x: &[u32], at: u64, from: usize, to: usize, part: &mut [u32])
+    requires { ⌜ (0 < length (now x)) × (at < 2 ^ 62) ⌝ }
+    requires { ⌜ (from ≤ to) × (to ≤ length (now part)) ⌝ }
+    requires { ⌜ to < 2 ^ 32 ⌝ }
+    ensures { λ r. ⌜ Puts (λ j. bitsFrom (value (now (x .entry))) (at + 32 * (j - from))) (now (part .entry)) (now (part .exit)) from to ⌝ }
+{
+    let mut j = from;
+    while j < to {
+        part[j] = window(x, at + 32 * ((j - from) as u64));
+        j += 1;
+    }
+}
+
+// Windows of x from a position on, one for each limb.
+pub fn put_windows(x: &[u32], at: u64, from: usize, to: usize, part: &mut [u32])
+    requires { ⌜ (0 < length (now x)) × (at < 2 ^ 40) ⌝ }
+    requires { ⌜ (from ≤ to) × (to ≤ length (now part)) ⌝ }
+    requires { ⌜ to < 2 ^ 32 ⌝ }
+    ensures { λ r. ⌜ Puts (λ j. bitsFrom (value (now (x .entry))) (at + 32 * (j - from))) (now (part .entry)) (now (part .exit)) from to ⌝ }
+{
+    let i = (at / 32) as usize;
+    let whole = gap((i as u64) + 1, x.len() as u64) as usize;
+    let inner = from + least(to - from, whole);
+    put_inner(x, i, at % 32, from, inner, part);
+    put_outer(x, at + 32 * ((inner - from) as u64), inner, to, part);
+}
