@@ -13,7 +13,9 @@ mod logical;
 mod measure;
 mod operand;
 mod result;
+mod reverse;
 mod run;
+mod shift;
 
 use operand::combine_operands;
 use operand::is_operand;
