@@ -14,8 +14,10 @@ mod logical;
 mod measure;
 mod operand;
 mod result;
+mod reverse;
 mod run;
 mod segment;
+mod shift;
 
 use index::most;
 use operand::combine_operands;
