@@ -20,5 +20,6 @@ pub mod Locality
 pub mod CountLaws
 pub mod ListTheorem
 pub mod FitsLaws
+pub mod WordLaws
 pub mod Samples
 pub mod Cases

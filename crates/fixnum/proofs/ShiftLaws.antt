@@ -11,7 +11,7 @@ use borrow.Author.Tests.{lt-ltb}
 use Rattle.bits.specs.Testbit.{isNegative, fits}
 use Rattle.bits.specs.Sign.{withSign, ofMagnitude}
 use Rattle.bits.specs.Shift.{floorDiv, shiftLeft, shiftRight, arithmeticShift}
-use Rattle.words.proofs.WordLaws.{fits-mag}
+use Rattle.bits.proofs.WordLaws.{fits-mag}
 use Rattle.words.proofs.SignedLaws.{withSign-times}
 
 -- ---- by sign and absolute value, and by sign and magnitude

@@ -17,7 +17,7 @@ use Rattle.bits.specs.Division.{modℕ}
 use Rattle.bits.specs.Field.{copyBitField}
 use Rattle.bits.proofs.FieldWords.{copyBitField-magnitude, setField-lt}
 use Rattle.bits.proofs.RotateWords.{reverseDigits}
-use Rattle.words.proofs.WordLaws.{back, mag-ofMagnitude}
+use Rattle.bits.proofs.WordLaws.{back, mag-ofMagnitude}
 
 -- ---- sign and magnitude
 

@@ -1,4 +1,3 @@
-pub mod WordLaws
 pub mod LogicalWords
 pub mod CountWords
 pub mod DivisionWords

@@ -18,7 +18,7 @@ use Rattle.bits.proofs.DivisionLaws.{div0-mod0-unique}
 use Rattle.words.specs.declared.wide.Wide.{Wide}
 use Rattle.words.specs.Wide.{wideValue}
 use Rattle.bits.proofs.FitsLaws.{double}
-use Rattle.words.proofs.WordLaws.{fits-mag, fits-negative, fits-nonnegative}
+use Rattle.bits.proofs.WordLaws.{fits-mag, fits-negative, fits-nonnegative}
 use Rattle.words.proofs.WideLaws.{wide-absolute, wide-sign}
 use Rattle.words.proofs.SignedLaws.{withSign-add, withSign-sub, withSign-times}
 

@@ -11,7 +11,7 @@ use mir.Val.{SFits, toZ, ofZ}
 use Rattle.bits.specs.Testbit.{isNegative}
 use Rattle.bits.specs.Sign.{withSign}
 use Rattle.bits.proofs.IntegerLaws.{pos-sub-ge}
-use Rattle.words.proofs.WordLaws.{back}
+use Rattle.bits.proofs.WordLaws.{back}
 
 -- an integer has a sign and an absolute value
 pub withSign-natAbs : (x : ℤ) → withSign (isNegative x) (natAbs x) ≡ x

@@ -2,7 +2,7 @@
 use borrow.Author.Needs.{needs}
 use native.Mathlib.Omega.{arith}
 use mathlib.Core.Path.{sym, _∙_}
-use Rattle.words.proofs.WordLaws.{back}
+use Rattle.bits.proofs.WordLaws.{back}
 use Rattle.fixnum.proofs.CallLaws.{width-bounds, fits-word, done-cong, sized-fits, sized-large}
 use Rattle.fixnum.proofs.sized.Statement.{statement}
 use Rattle.fixnum.proofs.sized.Tie as tie

@@ -5,7 +5,7 @@ use mathlib.Core.Path.{_≡_, refl, ap, ap₂, _∙_}
 use lib.IntN.{pos, negℤ, _+ℤ_, _-ℤ_, _*ℤ_}
 use mir.Syntax.{w64}
 use mir.Val.{SFits}
-use Rattle.words.proofs.WordLaws.{back}
+use Rattle.bits.proofs.WordLaws.{back}
 use Rattle.words.proofs.SignedLaws.{withSign-not, rejoin}
 use Rattle.words.proofs.WideLaws.{word-room}
 use Rattle.fixnum.specs.Domains.{arg}

@@ -11,7 +11,7 @@ use mir.Val.{toZ, ofZ}
 use Rattle.bits.specs.Testbit.{testbit}
 use Rattle.bits.specs.Division.{mod0}
 use Rattle.bits.specs.Field.{copyBit}
-use Rattle.words.proofs.WordLaws.{back-word}
+use Rattle.bits.proofs.WordLaws.{back-word}
 use Rattle.fixnum.specs.Answers.{done, unless}
 use Rattle.fixnum.specs.Domains.{arg}
 use Rattle.fixnum.specs.Operations.{truth, question, copyBitAt}

@@ -1,7 +1,7 @@
 -- `fixnum::carry::parts` meets its contract. Assumes nothing.
 use mathlib.Core.Path.{_∙_}
 use native.Mathlib.Omega.{arith}
-use Rattle.words.proofs.WordLaws.{back}
+use Rattle.bits.proofs.WordLaws.{back}
 use Rattle.fixnum.proofs.CallLaws.{width-bounds, done-cong}
 use borrow.Author.Needs.{needs}
 use Rattle.fixnum.proofs.carry.parts.Statement.{statement}

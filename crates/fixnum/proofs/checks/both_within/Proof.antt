@@ -1,6 +1,6 @@
 -- `fixnum::checks::both_within` meets its contract. Assumes nothing.
 use mathlib.Core.Path.{sym, _∙_}
-use Rattle.words.proofs.WordLaws.{back}
+use Rattle.bits.proofs.WordLaws.{back}
 use Rattle.bits.proofs.Booleans.{and-first, and-second}
 use borrow.Author.Needs.{needs}
 use Rattle.fixnum.proofs.checks.both_within.Statement.{statement}

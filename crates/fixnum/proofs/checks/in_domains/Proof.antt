@@ -10,7 +10,7 @@ use lib.ListN.{length}
 use mir.Syntax.{w64}
 use mir.Val.{toZ}
 use mir.ValLaws.{toZ-pos}
-use Rattle.words.proofs.WordLaws.{back-word}
+use Rattle.bits.proofs.WordLaws.{back-word}
 use Rattle.fixnum.specs.declared.checks.Shape.{Shape}
 use Rattle.fixnum.specs.Domains.{Domain, arg, isWidth, inDomains, inDomainsFrom}
 use Rattle.fixnum.specs.Table.{rowOf}

@@ -11,7 +11,7 @@ use lib.Signed.{ltZ}
 use mir.Syntax.{w64}
 use mir.Val.{toZ, ofZ}
 use Rattle.bits.specs.Testbit.{odd}
-use Rattle.words.proofs.WordLaws.{back-word}
+use Rattle.bits.proofs.WordLaws.{back-word}
 use Rattle.fixnum.specs.Answers.{done, unless}
 use Rattle.fixnum.specs.Domains.{arg}
 use Rattle.fixnum.specs.Operations.{question, truth, isZero, isPositive, isBelowZero, isOdd, isEven}

@@ -6,7 +6,7 @@ use mathlib.Core.List.{[]}
 use lib.IntN.{ℤ}
 use mir.Syntax.{w64}
 use mir.Val.{toZ, ofZ}
-use Rattle.words.proofs.WordLaws.{back-word}
+use Rattle.bits.proofs.WordLaws.{back-word}
 use Rattle.fixnum.specs.declared.loops.Fold.{Fold}
 use Rattle.fixnum.specs.declared.loops.Fold.the-variants.{Largest, Smallest}
 use Rattle.fixnum.specs.Domains.{arg}

@@ -9,7 +9,7 @@ use mir.Val.{toZ, ofZ}
 use Rattle.bits.specs.Field.{bitField, copyBitField, rotateBitField, reverseBitField}
 use Rattle.bits.proofs.FieldWords.{copyBitField-put}
 use Rattle.bits.proofs.RotateWords.{bitField-number, rotate-put, reverse-put}
-use Rattle.words.proofs.WordLaws.{back, back-word}
+use Rattle.bits.proofs.WordLaws.{back, back-word}
 use Rattle.fixnum.specs.Answers.{unless}
 use Rattle.fixnum.specs.Domains.{arg}
 use Rattle.fixnum.specs.Operations.{three, four}

@@ -3,7 +3,7 @@ use borrow.Author.Needs.{needs}
 use mathlib.Core.Path.{refl, ap₂, _∙_}
 use lib.IntN.{pos}
 use Rattle.bits.specs.Logical.{bitwiseAnd, bitwiseIor, bitwiseIf}
-use Rattle.words.proofs.WordLaws.{back, not-word}
+use Rattle.bits.proofs.WordLaws.{back, not-word}
 use Rattle.fixnum.specs.Answers.{unless}
 use Rattle.fixnum.specs.Domains.{arg}
 use Rattle.fixnum.specs.Operations.{three}

@@ -3,7 +3,7 @@ use borrow.Author.Needs.{needs}
 use mathlib.Core.Path.{refl, ap, _∙_}
 use lib.IntN.{ℤ, pos}
 use Rattle.bits.specs.Logical.{bitwiseNot}
-use Rattle.words.proofs.WordLaws.{not-word}
+use Rattle.bits.proofs.WordLaws.{not-word}
 use Rattle.fixnum.specs.Answers.{done, unless}
 use Rattle.fixnum.specs.Domains.{arg}
 use Rattle.fixnum.specs.Operations.{one}

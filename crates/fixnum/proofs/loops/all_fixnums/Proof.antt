@@ -6,7 +6,7 @@ use mathlib.Core.Bool.{Bool, true, false, _&&_}
 use borrow.Author.Tests.{not-true, not-false}
 use lib.ListN.{drop}
 use Rattle.bits.specs.Testbit.{fits}
-use Rattle.words.proofs.WordLaws.{back}
+use Rattle.bits.proofs.WordLaws.{back}
 use Rattle.fixnum.specs.Domains.{arg}
 use Rattle.fixnum.specs.Calls.{counted, allFixnums}
 use Rattle.fixnum.proofs.CallLaws.{width-bounds}

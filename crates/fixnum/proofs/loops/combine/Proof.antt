@@ -5,7 +5,7 @@ use lib.IntN.{ℤ}
 use lib.Signed.{mag}
 use mir.Syntax.{w64}
 use mir.Val.{toZ, ofZ}
-use Rattle.words.proofs.WordLaws.{back, back-word}
+use Rattle.bits.proofs.WordLaws.{back, back-word}
 use Rattle.fixnum.specs.declared.loops.Fold.{Fold}
 use Rattle.fixnum.specs.Operations.{larger, smaller}
 use Rattle.fixnum.specs.Steps.{step}

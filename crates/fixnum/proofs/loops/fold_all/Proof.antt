@@ -8,7 +8,7 @@ use lib.ListN.{drop}
 use mir.Syntax.{w64}
 use mir.Val.{toZ, ofZ}
 use borrow.Author.Needs.{needs}
-use Rattle.words.proofs.WordLaws.{back, back-word}
+use Rattle.bits.proofs.WordLaws.{back, back-word}
 use Rattle.fixnum.specs.Domains.{arg}
 use Rattle.fixnum.specs.Operations.{foldFrom}
 use Rattle.fixnum.specs.Steps.{step}

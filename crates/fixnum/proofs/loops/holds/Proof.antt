@@ -1,7 +1,7 @@
 -- `fixnum::loops::holds` meets its contract. Assumes nothing.
 use mathlib.Core.Path.{_≡_, sym, ap, _∙_}
 use lib.IntN.{ℤ}
-use Rattle.words.proofs.WordLaws.{back}
+use Rattle.bits.proofs.WordLaws.{back}
 use Rattle.fixnum.specs.declared.loops.Relation.{Relation}
 use Rattle.fixnum.specs.Operations.{greater, greaterOrEqual}
 use Rattle.fixnum.specs.Steps.{holds}

@@ -6,7 +6,7 @@ use lib.Pow.{shr-le}
 use lib.Signed.{mag}
 use Rattle.bits.specs.Testbit.{isNegative}
 use Rattle.bits.specs.Sign.{ofMagnitude}
-use Rattle.words.proofs.WordLaws.{back}
+use Rattle.bits.proofs.WordLaws.{back}
 use Rattle.fixnum.proofs.ShiftLaws.{right-magnitude}
 use borrow.Author.Needs.{needs}
 use Rattle.fixnum.proofs.shifts.right.Statement.{statement}

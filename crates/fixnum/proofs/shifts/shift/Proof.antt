@@ -9,7 +9,7 @@ use mir.Syntax.{w64}
 use mir.Val.{toZ, ofZ}
 use Rattle.bits.specs.Testbit.{isNegative}
 use Rattle.bits.specs.Shift.{shiftLeft, shiftRight, arithmeticShift}
-use Rattle.words.proofs.WordLaws.{back-word}
+use Rattle.bits.proofs.WordLaws.{back-word}
 use Rattle.fixnum.specs.Answers.{unless}
 use Rattle.fixnum.specs.Domains.{arg}
 use Rattle.fixnum.specs.Operations.{two}

@@ -8,7 +8,7 @@ use lib.Count.{trailing-le}
 use lib.IntN.{pos, natAbs}
 use lib.Signed.{natAbs-le}
 use Rattle.bits.specs.Sign.{ofMagnitude}
-use Rattle.words.proofs.WordLaws.{back}
+use Rattle.bits.proofs.WordLaws.{back}
 use Rattle.words.proofs.CountWords.{trailing-firstBitSet, none-firstBitSet}
 use Rattle.words.proofs.count.first_bit_set.Statement.{statement}
 use Rattle.words.proofs.count.first_bit_set.Tie as tie

@@ -9,7 +9,7 @@ use lib.IntN.{natAbs}
 use lib.Signed.{natAbs-le}
 use Rattle.bits.specs.Testbit.{isNegative}
 use Rattle.words.specs.Division.{Allowed, Divided}
-use Rattle.words.proofs.WordLaws.{back}
+use Rattle.bits.proofs.WordLaws.{back}
 use Rattle.words.proofs.DivisionWords.{remainder, answer, divided}
 use Rattle.words.proofs.division.divide.Statement.{statement}
 use Rattle.words.proofs.division.divide.Tie as tie

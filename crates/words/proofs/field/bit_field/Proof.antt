@@ -5,7 +5,7 @@ use Prim.Native.Nat.{_-_, _^_}
 use lib.IntN.{ℤ}
 use Rattle.bits.specs.Division.{modℕ}
 use Rattle.bits.specs.Shift.{shiftRight}
-use Rattle.words.proofs.WordLaws.{back}
+use Rattle.bits.proofs.WordLaws.{back}
 use Rattle.words.proofs.field.bit_field.Statement.{statement}
 use Rattle.words.proofs.field.bit_field.Tie as tie
 

@@ -6,7 +6,7 @@ use lib.Dec.{eqb}
 use lib.IntN.{ℤ}
 use Rattle.bits.specs.Division.{modℕ}
 use Rattle.bits.specs.Shift.{shiftRight}
-use Rattle.words.proofs.WordLaws.{back}
+use Rattle.bits.proofs.WordLaws.{back}
 use Rattle.words.proofs.FieldLaws.{one-bit}
 use Rattle.words.proofs.field.bit_set.Statement.{statement}
 use Rattle.words.proofs.field.bit_set.Tie as tie

@@ -7,7 +7,7 @@ use Prim.Native.Nat.{ℕ, _+_, _*_, _-_, _%_, _<_, _^_}
 use lib.IntN.{ℤ, pos}
 use Rattle.bits.specs.Sign.{ofMagnitude}
 use Rattle.bits.specs.Field.{copyBitField}
-use Rattle.words.proofs.WordLaws.{back}
+use Rattle.bits.proofs.WordLaws.{back}
 use Rattle.words.proofs.FieldLaws.{together, magnitude-lt, replaced, replaced-lt}
 use Rattle.words.proofs.field.copy_bit_field.Statement.{statement}
 use Rattle.words.proofs.field.copy_bit_field.Tie as tie

@@ -10,7 +10,7 @@ use Rattle.bits.specs.Division.{modℕ}
 use Rattle.bits.specs.Sign.{ofMagnitude}
 use Rattle.bits.proofs.ModLaws.{modℕ-lt}
 use Rattle.bits.proofs.FieldWords.{extend-magnitude}
-use Rattle.words.proofs.WordLaws.{back}
+use Rattle.bits.proofs.WordLaws.{back}
 use Rattle.words.proofs.field.extend.Statement.{statement}
 use Rattle.words.proofs.field.extend.Tie as tie
 

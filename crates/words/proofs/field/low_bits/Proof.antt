@@ -5,7 +5,7 @@ use Prim.Native.Nat.{_^_}
 use lib.IntN.{ℤ}
 use Rattle.bits.specs.Division.{modℕ}
 use Rattle.bits.proofs.ShiftLaws.{shiftRight-zero}
-use Rattle.words.proofs.WordLaws.{back}
+use Rattle.bits.proofs.WordLaws.{back}
 use Rattle.words.proofs.field.low_bits.Statement.{statement}
 use Rattle.words.proofs.field.low_bits.Tie as tie
 

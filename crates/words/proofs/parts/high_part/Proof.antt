@@ -1,7 +1,7 @@
 -- `words::parts::high_part` meets its contract. Assumes nothing.
 use mathlib.Core.Path.{sym, _∙_}
 use native.Mathlib.Omega.{arith}
-use Rattle.words.proofs.WordLaws.{back}
+use Rattle.bits.proofs.WordLaws.{back}
 use Rattle.words.proofs.PartLaws.{high-near, high-far, quotient-lt, small-fits}
 use borrow.Author.Needs.{needs}
 use Rattle.words.proofs.parts.high_part.Statement.{statement}

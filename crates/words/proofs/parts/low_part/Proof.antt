@@ -5,7 +5,7 @@ use native.Mathlib.Nat.{mod-lt}
 use lib.Pow.{pow-pos}
 use lib.IntN.{natAbs}
 use Rattle.words.specs.Wide.{wideValue}
-use Rattle.words.proofs.WordLaws.{back}
+use Rattle.bits.proofs.WordLaws.{back}
 use Rattle.words.proofs.PartLaws.{low-near, low-far, low-far-fits, fits-wider}
 use borrow.Author.Needs.{needs}
 use Rattle.words.proofs.parts.low_part.Statement.{statement}

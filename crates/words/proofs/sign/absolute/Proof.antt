@@ -4,7 +4,7 @@ use native.Mathlib.Omega.{arith}
 use borrow.Author.Needs.{needs}
 use Prim.Native.Nat.{_+_, _<_, _^_}
 use lib.Signed.{mag}
-use Rattle.words.proofs.WordLaws.{back, is-negative, natAbs-negative, natAbs-nonnegative}
+use Rattle.bits.proofs.WordLaws.{back, is-negative, natAbs-negative, natAbs-nonnegative}
 use Rattle.words.proofs.sign.absolute.Statement.{statement}
 use Rattle.words.proofs.sign.absolute.Tie as tie
 

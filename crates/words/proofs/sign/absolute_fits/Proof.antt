@@ -1,6 +1,6 @@
 -- `words::sign::absolute_fits` meets its contract. Assumes nothing.
 use borrow.Author.Needs.{needs}
-use Rattle.words.proofs.WordLaws.{fits-negative, fits-nonnegative}
+use Rattle.bits.proofs.WordLaws.{fits-negative, fits-nonnegative}
 use Rattle.words.proofs.sign.absolute_fits.Statement.{statement}
 use Rattle.words.proofs.sign.absolute_fits.Tie as tie
 

@@ -6,7 +6,7 @@ use Prim.Native.Nat.{ℕ, _<_, _^_}
 use lib.IntN.{ℤ}
 use lib.Signed.{mag}
 use Rattle.bits.specs.Testbit.{fits}
-use Rattle.words.proofs.WordLaws.{back, sign-zero, sign-negative, sign-nonnegative, fits-mag, mag-ofMagnitude}
+use Rattle.bits.proofs.WordLaws.{back, sign-zero, sign-negative, sign-nonnegative, fits-mag, mag-ofMagnitude}
 use Rattle.words.proofs.sign.from_absolute.Statement.{statement}
 use Rattle.words.proofs.sign.from_absolute.Tie as tie
 

@@ -7,7 +7,7 @@ use mir.Syntax.{w64}
 use mir.ValLaws.{toZ-pos}
 use Rattle.bits.specs.Sign.{ofMagnitude}
 use Rattle.bits.specs.Logical.{bitwiseNot}
-use Rattle.words.proofs.WordLaws.{not-word}
+use Rattle.bits.proofs.WordLaws.{not-word}
 use Rattle.words.proofs.sign.from_magnitude.Statement.{statement}
 use Rattle.words.proofs.sign.from_magnitude.Tie as tie
 

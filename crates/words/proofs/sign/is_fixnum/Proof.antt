@@ -3,7 +3,7 @@ use mathlib.Core.Path.{ap, _∙_}
 use borrow.Author.Needs.{needs}
 use lib.Signed.{mag}
 use Rattle.bits.specs.Testbit.{fits}
-use Rattle.words.proofs.WordLaws.{back}
+use Rattle.bits.proofs.WordLaws.{back}
 use Rattle.words.proofs.sign.is_fixnum.Statement.{statement}
 use Rattle.words.proofs.sign.is_fixnum.Tie as tie
 
