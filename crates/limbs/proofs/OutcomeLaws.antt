@@ -2,13 +2,13 @@
 -- Assumes nothing.
 use Prim.Native.Nat.{ℕ, _*_, _-_, _≤_, _<_}
 use native.Mathlib.Omega.{arith}
-use mathlib.Core.Path.{_≡_, sym, ap, ap₂, _∙_, subst}
-use mathlib.Core.Bool.{Bool, true, false, cond, _&&_, _||_}
+use mathlib.Core.Path.{_≡_, refl, sym, ap, ap₂, _∙_, subst}
+use mathlib.Core.Bool.{Bool, true, false, cond, not, _&&_, _||_}
 use mathlib.Core.List.{List}
-use lib.Dec.{leb}
+use lib.Dec.{eqb, leb}
 use lib.IntN.{ℤ}
 use lib.ListN.{length}
-use borrow.Author.Tests.{leb-true}
+use borrow.Author.Tests.{leb-true, ne-eqb, not-true, not-false}
 use Rattle.bits.specs.Testbit.{bitLength}
 use Rattle.bits.specs.Logical.{bitwise, bitwiseNot, bitwiseAnd, bitwiseIor, bitwiseIf}
 use Rattle.bits.proofs.Booleans.{both-left}
@@ -17,7 +17,7 @@ use Rattle.bits.proofs.LengthLaws.{bitLength-least-bits, bitLength-not}
 use Rattle.bits.proofs.LogicalLaws.{testbit-bitwise, isNegative-bitwise}
 use Rattle.limbs.specs.declared.Written.{Written}
 use Rattle.limbs.specs.Value.{value}
-use Rattle.limbs.specs.Buffer.{Outcome, refused, unless, refusal, written, afterwards, Writes}
+use Rattle.limbs.specs.Buffer.{Outcome, refused, integer, unless, checked, refusal, written, afterwards, Writes}
 use Rattle.limbs.specs.Operations.{mostLimbs, isOperand, operand}
 use Rattle.limbs.proofs.ValueLaws.{value-length}
 
@@ -30,6 +30,28 @@ passed test k o h = ap (λ (t : Bool). cond t o (refused k)) h
 pub failed : (test : Bool) (k : ℕ) (o : Outcome) → test ≡ false → unless test k o ≡ refused k
 unfolding unless
 failed test k o h = ap (λ (t : Bool). cond t o (refused k)) h
+
+-- the same, where the code refuses on the test's negation
+pub passed-by : {r test : Bool} (k : ℕ) (o : Outcome) → r ≡ test → not r ≡ false → unless test k o ≡ o
+passed-by k o e h = passed _ k o (sym e ∙ not-false _ h)
+
+pub failed-by : {r test : Bool} (k : ℕ) (o : Outcome) → r ≡ test → not r ≡ true → unless test k o ≡ refused k
+failed-by k o e h = failed _ k o (sym e ∙ not-true _ h)
+
+-- a refusal number of 0, and another
+pub checked-none : {k : ℕ} (o : Outcome) → k ≡ 0 → checked k o ≡ o
+unfolding checked
+checked-none o e = ap (λ (n : ℕ). cond (eqb n 0) o (refused n)) e
+
+pub checked-refused : (k : ℕ) (o : Outcome) → (k ≡ 0 → ⊥) → checked k o ≡ refused k
+unfolding checked
+checked-refused k o h = ap (λ (b : Bool). cond b o (refused k)) (ne-eqb k 0 h)
+
+-- what comes to an integer has passed its stages
+pub stage-passed : (test : Bool) (k : ℕ) (o : Outcome) {z : ℤ} → unless test k o ≡ integer z → (test ≡ true) × (o ≡ integer z)
+unfolding unless
+stage-passed true k o e = (refl, e)
+stage-passed false k o e = let z : _≡_ {A = ℕ} 0 1 = cc in absurd (omega arith)
 
 pub operand-passed : (xs : List ℕ) (o : Outcome) → isOperand xs ≡ true → operand xs o ≡ o
 unfolding operand

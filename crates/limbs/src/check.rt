@@ -1,14 +1,17 @@
 // What is decided before a result is measured: refusals 7 and 5, by their numbers; 0 where there is none.
 ghost use mathlib.Core.Path.{_≡_};
-ghost use mathlib.Core.Bool.{_&&_};
+ghost use mathlib.Core.Bool.{true};
 ghost use lib.IntN.{pos, natAbs};
 ghost use lib.Signed.{leZ};
 ghost use Rattle.bits.specs.Range as range;
-ghost use Rattle.limbs.specs.Buffer.{Outcome, checked};
+ghost use Rattle.limbs.specs.Buffer.{Outcome, unless, checked};
 ghost use Rattle.limbs.specs.Operations.{isOperand, operand, field};
 
 const MOST_LIMBS: usize = 1024;
+
 const LAST_END: i64 = 32767;
+
+const LAST_BIT: i64 = 32766;
 
 pub fn is_operand(x: &[u32]) -> bool
     ensures { λ r. ⌜ r ≡ isOperand (now (x .entry)) ⌝ }
@@ -31,10 +34,16 @@ pub fn check_operands(x: &[u32], y: &[u32], z: &[u32]) -> u64
     0
 }
 
-pub fn within(low: i64, x: i64, high: i64) -> bool
+fn within(low: i64, x: i64, high: i64) -> bool
     ensures { λ r. ⌜ r ≡ range.within low x high ⌝ }
 {
     low <= x && x <= high
+}
+
+fn is_field(start: i64, end: i64) -> bool
+    ensures { λ r. ⌜ ((o : Outcome) → field start end o ≡ unless r 5 o) ⌝ }
+{
+    within(0, start, end) && end <= LAST_END
 }
 
 // Two operands and a field.
@@ -45,13 +54,30 @@ pub fn check_field(x: &[u32], y: &[u32], start: i64, end: i64) -> u64
     if refusal != 0 {
         return refusal;
     }
-    if !within(0, start, end) {
+    if is_field(start, end) { 0 } else { 5 }
+}
+
+// An operand, a position and a new bit.
+pub fn check_bit(x: &[u32], k: i64, bit: i64) -> u64
+    ensures { λ r. ⌜ ((o : Outcome) → operand (now (x .entry)) (unless (range.within (pos 0) k (pos 32766)) 5 (unless (range.within (pos 0) bit (pos 1)) 5 o)) ≡ checked r o) ⌝ }
+{
+    if !is_operand(x) {
+        return 7;
+    }
+    if !within(0, k, LAST_BIT) {
         return 5;
     }
-    if !within(end, end, LAST_END) {
-        return 5;
+    if within(0, bit, 1) { 0 } else { 5 }
+}
+
+// An operand and a number that may not be negative.
+pub fn check_count(x: &[u32], n: i64) -> u64
+    ensures { λ r. ⌜ ((o : Outcome) → operand (now (x .entry)) (unless (leZ (pos 0) n) 5 o) ≡ checked r o) ⌝ }
+{
+    if !is_operand(x) {
+        return 7;
     }
-    0
+    if 0 <= n { 0 } else { 5 }
 }
 
 // A number that is not negative, as a position.

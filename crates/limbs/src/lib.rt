@@ -8,6 +8,7 @@ ghost use mathlib.Core.Bool.{_&&_, _||_, xor};
 ghost use Rattle.limbs.specs.Buffer.{Writes};
 ghost use Rattle.limbs.specs.Operations.{notOutcome, bitwiseOutcome, ifOutcome};
 
+mod check;
 mod index;
 mod limb;
 mod logical;
@@ -19,9 +20,9 @@ mod run;
 mod segment;
 mod shift;
 
+use check::is_operand;
 use index::most;
 use operand::combine_operands;
-use operand::is_operand;
 use result::Logic;
 use result::Operation;
 use run::refuse;

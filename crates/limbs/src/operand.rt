@@ -1,23 +1,16 @@
-// What is a legal operand; and the calls on two operands.
+// The calls on two operands.
 ghost use mathlib.Core.Path.{_≡_};
 ghost use Prim.Native.Nat.{_≤_};
 ghost use Rattle.limbs.specs.Buffer.{Writes};
 ghost use Rattle.limbs.specs.Operations.{isOperand, bitwiseOutcome};
 ghost use Rattle.limbs.specs.Results.{logicOf};
 use super::Written;
+use super::check::is_operand;
 use super::index::most;
 use super::result::Logic;
 use super::result::Operation;
 use super::run::refuse;
 use super::run::run;
-
-const MOST_LIMBS: usize = 1024;
-
-pub fn is_operand(x: &[u32]) -> bool
-    ensures { λ r. ⌜ r ≡ isOperand (now (x .entry)) ⌝ }
-{
-    1 <= x.len() && x.len() <= MOST_LIMBS
-}
 
 pub fn combine_operands(by: Logic, x: &[u32], y: &[u32], out: &mut [u32], first: u64) -> Written
     ensures { λ r. ⌜ Writes (bitwiseOutcome (logicOf by) (now (x .entry)) (now (y .entry))) (now (out .entry)) first r (now (out .exit)) ⌝ }

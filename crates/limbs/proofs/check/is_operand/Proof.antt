@@ -1,11 +1,11 @@
--- `limbs::operand::is_operand` meets its contract. Assumes nothing.
+-- `limbs::check::is_operand` meets its contract. Assumes nothing.
 use borrow.Author.Tests.{le-leb, lt-leb}
 use lib.Dec.{leb}
 use lib.ListN.{length}
 use Rattle.bits.proofs.Booleans.{and-first, and-second}
 use Rattle.limbs.specs.Operations.{mostLimbs, isOperand}
-use Rattle.limbs.proofs.operand.is_operand.Statement.{statement}
-use Rattle.limbs.proofs.operand.is_operand.Tie as tie
+use Rattle.limbs.proofs.check.is_operand.Statement.{statement}
+use Rattle.limbs.proofs.check.is_operand.Tie as tie
 
 returns : tie.Need-returns
 unfolding isOperand mostLimbs

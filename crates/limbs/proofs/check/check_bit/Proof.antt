@@ -1,0 +1,54 @@
+-- `limbs::check::check_bit` meets its contract. Assumes nothing.
+use mathlib.Core.Path.{_≡_, sym, ap, _∙_}
+use Rattle.bits.proofs.WordLaws.{back}
+use Rattle.limbs.specs.Buffer.{checked}
+use Rattle.limbs.specs.Operations.{operand}
+use Rattle.limbs.proofs.OutcomeLaws.{passed, failed, passed-by, failed-by}
+use borrow.Author.Needs.{needs}
+use Rattle.limbs.proofs.check.check_bit.Statement.{statement}
+use Rattle.limbs.proofs.check.check_bit.Tie as tie
+
+is-operand-requires : tie.Need-is-operand-requires
+is-operand-requires c κs = search needs
+
+returns : tie.Need-returns
+unfolding operand checked
+returns c = λ o. failed-by 7 _ (c .before .is-operand .ensures) (c .if1 .taken)
+
+within-requires : tie.Need-within-requires
+within-requires c κs = search needs
+
+returns-2 : tie.Need-returns-2
+unfolding operand checked
+returns-2 c =
+    λ o. passed-by 7 _ (c .before .before .before .is-operand .ensures) (c .before .before .if1 .left)
+    ∙ failed-by 5 _ (rw (back (c .before .before .before .before .before .fits .k)) at (c .before .within .ensures)) (c .if2 .taken)
+
+within-requires-2 : tie.Need-within-requires-2
+within-requires-2 c κs = search needs
+
+returns-3 : tie.Need-returns-3
+unfolding operand checked
+returns-3 c =
+    λ o. passed-by 7 _ (c .before .before .before .before .before .is-operand .ensures) (c .before .before .before .before .if1 .left)
+    ∙ passed-by 5 _ (rw (back (c .before .before .before .before .before .before .before .fits .k)) at (c .before .before .before .within .ensures)) (c .before .before .if2 .left)
+    ∙ passed _ 5 _ (sym (rw (back (c .before .before .before .before .before .before .before .fits .bit)) at (c .before .within2 .ensures)) ∙ c .if3 .taken)
+
+returns-4 : tie.Need-returns-4
+unfolding operand checked
+returns-4 c =
+    λ o. passed-by 7 _ (c .before .before .before .before .before .is-operand .ensures) (c .before .before .before .before .if1 .left)
+    ∙ passed-by 5 _ (rw (back (c .before .before .before .before .before .before .before .fits .k)) at (c .before .before .before .within .ensures)) (c .before .before .if2 .left)
+    ∙ failed _ 5 _ (sym (rw (back (c .before .before .before .before .before .before .before .fits .bit)) at (c .before .within2 .ensures)) ∙ c .if3 .left)
+
+pub check-bit-spec : {M : Type 1} → statement M
+check-bit-spec =
+    tie.close
+    (tie.spec
+    is-operand-requires
+    returns
+    within-requires
+    returns-2
+    within-requires-2
+    returns-3
+    returns-4)
