@@ -8,12 +8,15 @@ ghost use mathlib.Core.Bool.{_&&_, _||_, xor};
 ghost use Rattle.limbs.specs.Buffer.{Writes};
 ghost use Rattle.limbs.specs.Operations.{notOutcome, bitwiseOutcome, ifOutcome};
 
+mod field;
 mod limb;
 mod logical;
 mod measure;
 mod operand;
 mod result;
+mod reverse;
 mod run;
+mod splice;
 
 use operand::combine_operands;
 use operand::is_operand;

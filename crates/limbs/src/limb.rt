@@ -2,6 +2,7 @@
 ghost use mathlib.Core.Path.{_≡_};
 ghost use Prim.Native.Nat.{_+_, _*_, _/_, _%_, _<_, _≤_, _^_};
 ghost use lib.ListN.{length};
+ghost use Rattle.bits.specs.Shift.{shiftLeft};
 ghost use Rattle.limbs.specs.Value.{value, bitsFrom};
 
 // 32 bits of two limbs from bit k of the lower one on.
@@ -38,4 +39,19 @@ pub fn window(x: &[u32], at: u64) -> u32
 {
     let j = (at / 32) as usize;
     join(limb(x, j), limb(x, j + 1), at % 32)
+}
+
+// The same of x shifted left: its bits from a position on, where those below bit `by` are zeros.
+pub fn window_below(x: &[u32], at: u64, by: u64) -> u32
+    requires { ⌜ 0 < length (now x) ⌝ }
+    requires { ⌜ (at < 2 ^ 63) × (by < 2 ^ 63) ⌝ }
+    ensures { λ r. ⌜ r ≡ bitsFrom (shiftLeft (value (now (x .entry))) by) at ⌝ }
+{
+    if by <= at {
+        return window(x, at - by);
+    }
+    if 32 <= by - at {
+        return 0;
+    }
+    join(0, limb(x, 0), 32 - (by - at))
 }
