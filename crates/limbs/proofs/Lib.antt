@@ -3,5 +3,7 @@ pub mod LimbLaws
 pub mod MeasureLaws
 pub mod BufferLaws
 pub mod LogicalLaws
+pub mod SpliceLaws
+pub mod FieldLimbs
 pub mod OutcomeLaws
 pub mod Cases

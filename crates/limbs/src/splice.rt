@@ -6,12 +6,19 @@ ghost use lib.Dec.{ltb};
 ghost use lib.IntN.{pos};
 ghost use Rattle.bits.specs.Testbit.{testbit};
 
+fn power(k: u64) -> u64
+    requires { ⌜ k < 64 ⌝ }
+    ensures { λ r. ⌜ r ≡ 2 ^ k ⌝ }
+{
+    1 << k
+}
+
 // The bits of one word below bit k, and of another from there on.
 fn splice(low: u32, high: u32, k: u64) -> u32
     requires { ⌜ k ≤ 32 ⌝ }
     ensures { λ r. ⌜ ((t : ℕ) → t < 32 → testbit (pos r) t ≡ cond (ltb t k) (testbit (pos low) t) (testbit (pos high) t)) ⌝ }
 {
-    let unit = 1u64 << k;
+    let unit = power(k);
     ((high as u64) / unit * unit + (low as u64) % unit) as u32
 }
 
