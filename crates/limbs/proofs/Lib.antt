@@ -1,5 +1,6 @@
 pub mod ValueLaws
 pub mod LimbLaws
+pub mod WindowLaws
 pub mod MeasureLaws
 pub mod BufferLaws
 pub mod LogicalLaws

@@ -16,6 +16,7 @@ mod operand;
 mod result;
 mod reverse;
 mod run;
+mod shift;
 mod splice;
 
 use operand::combine_operands;
