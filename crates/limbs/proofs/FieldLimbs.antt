@@ -6,7 +6,6 @@ use mathlib.Core.Path.{_≡_, refl, sym, ap, _∙_}
 use mathlib.Core.Bool.{Bool, true, false, cond, _&&_}
 use lib.Dec.{ltb}
 use lib.IntN.{ℤ, pos}
-use borrow.Author.Tests.{lt-ltb, le-ltb}
 use Rattle.bits.specs.Testbit.{testbit}
 use Rattle.bits.specs.Shift.{shiftLeft}
 use Rattle.bits.specs.Field.{inField, bitField, setField, copyBitField, permuteField, rotateIndex, reverseIndex, rotateBitField, reverseBitField}
@@ -17,51 +16,21 @@ use Rattle.bits.proofs.RotateWords.{rotate-low, rotate-high}
 use Rattle.limbs.specs.Value.{bitsFrom, limbAt}
 use Rattle.limbs.proofs.LimbLaws.{testbit-bitsFrom, word-ext}
 
--- a bit below end from one word, and a bit below start, or from end on, from another
+-- ---- one bit
+
+-- from two words: below `end` from the one, and below `start` and from `end` on from the other
 pub choose-field : (start end i : ℕ) (a b : Bool) → cond (ltb i start) b (cond (ltb i end) a b) ≡ cond (inField start end i) a b
 choose-field start end i a b =
     by-lt (λ c. cond c b (cond (ltb i end) a b) ≡ cond (inField start end i) a b) i start
-    (λ l. sym (ap (λ (c : Bool). cond c a b) (inField-lt start end i l)))
+    (λ l. pick (inField-lt start end i l))
     (λ l. by-lt (λ c. cond c a b ≡ cond (inField start end i) a b) i end
-    (λ u. sym (ap (λ (c : Bool). cond c a b) (inField-true start end i l u)))
-    (λ u. sym (ap (λ (c : Bool). cond c a b) (inField-ge start end i u))))
-
--- the field as a number: its bits come down, and zeros follow
-pub bitField-limb : (x : ℤ) (start end j : ℕ) {w r : ℕ} → r < 2 ^ 32 → w ≡ bitsFrom x (start + 32 * j)
-    → ((t : ℕ) → t < 32 → testbit (pos r) t ≡ cond (ltb (32 * j + t) (end - start)) (testbit (pos w) t) (testbit (pos 0) t))
-    → r ≡ limbAt (bitField x start end) j
-bitField-limb x start end j {w} {r} h e f =
-    word-ext r (bitField x start end) (32 * j) h (λ t l.
-    f t l ∙ sym (testbit-bitField x start end (32 * j + t) ∙ pick t l (ltb (32 * j + t) (end - start))))
+    (λ u. pick (inField-true start end i l u))
+    (λ u. pick (inField-ge start end i u)))
   where
-    pick : (t : ℕ) → t < 32 → (b : Bool) → b && testbit x (start + (32 * j + t)) ≡ cond b (testbit (pos w) t) (testbit (pos 0) t)
-    pick t l true =
-        let q : start + (32 * j + t) ≡ start + 32 * j + t = omega arith in
-        ap (testbit x) q ∙ sym (ap (λ (n : ℕ). testbit (pos n) t) e ∙ testbit-bitsFrom x (start + 32 * j) t l)
-    pick t l false = sym (testbit-zero t)
+    pick : {c : Bool} → inField start end i ≡ c → cond c a b ≡ cond (inField start end i) a b
+    pick e = sym (ap (λ (c : Bool). cond c a b) e)
 
--- limb j with the bits of the word `inside` within the field, and those of x outside it
-pub record Laid (x : ℤ) (start end j inside r : ℕ) : Type 0 where
-  pub fits : r < 2 ^ 32
-  pub outside : ℕ
-  pub same : outside ≡ limbAt x j
-  pub bits : (t : ℕ) → t < 32 → testbit (pos r) t ≡ cond (inField start end (32 * j + t)) (testbit (pos inside) t) (testbit (pos outside) t)
-
--- x with a field replaced
-setField-limb : {x : ℤ} {start end j inside r : ℕ} (g : ℕ → Bool) → Laid x start end j inside r
-    → ((t : ℕ) → t < 32 → start ≤ 32 * j + t → 32 * j + t < end → testbit (pos inside) t ≡ g (32 * j + t - start))
-    → r ≡ limbAt (setField x start end g) j
-setField-limb {x} {start} {end} {j} {inside} {r} g laid k =
-    word-ext r (setField x start end g) (32 * j) (laid .fits) (λ t l.
-    laid .bits t l
-    ∙ by-field
-    (λ b. cond b (testbit (pos inside) t) (testbit (pos (laid .outside)) t) ≡ cond b (g (32 * j + t - start)) (testbit x (32 * j + t)))
-    start end (32 * j + t)
-    (λ s u. k t l s u)
-    (λ o. ap (λ (n : ℕ). testbit (pos n) t) (laid .same) ∙ testbit-bitsFrom x (32 * j) t l)
-    ∙ sym (testbit-setField x start end g (32 * j + t)))
-
--- bit t of 32 bits of x, and of x shifted left
+-- from 32 bits of x, and of x shifted left
 window-bit : (x : ℤ) (at t w m : ℕ) → w ≡ bitsFrom x at → t < 32 → at + t ≡ m → testbit (pos w) t ≡ testbit x m
 window-bit x at t w m e h q = ap (λ (n : ℕ). testbit (pos n) t) e ∙ testbit-bitsFrom x at t h ∙ ap (testbit x) q
 
@@ -71,13 +40,50 @@ shifted-bit x at by t w m e h q =
     ∙ testbit-shiftLeft-ge x by (by + m) (omega arith)
     ∙ ap (testbit x) (add-sub-cancel-left by m)
 
+-- ---- a limb of a field as a number: the bits of the field, and zeros from its end on
+
+pub bitField-limb : (x : ℤ) (start end j : ℕ) {w r : ℕ} → r < 2 ^ 32 → w ≡ bitsFrom x (start + 32 * j)
+    → ((t : ℕ) → t < 32 → testbit (pos r) t ≡ cond (ltb (32 * j + t) (end - start)) (testbit (pos w) t) (testbit (pos 0) t))
+    → r ≡ limbAt (bitField x start end) j
+bitField-limb x start end j {w} {r} h e f =
+    word-ext r (bitField x start end) (32 * j) h (λ t l.
+    f t l ∙ pick t l (ltb (32 * j + t) (end - start)) ∙ sym (testbit-bitField x start end (32 * j + t)))
+  where
+    pick : (t : ℕ) → t < 32 → (b : Bool) → cond b (testbit (pos w) t) (testbit (pos 0) t) ≡ b && testbit x (start + (32 * j + t))
+    pick t l true = window-bit x (start + 32 * j) t w (start + (32 * j + t)) e l (omega arith)
+    pick t l false = testbit-zero t
+
+-- ---- a limb of x with a field replaced
+
+-- limb j has the bits of the word `inside` within the field, and those of x outside it
+pub record Laid (x : ℤ) (start end j inside r : ℕ) : Type 0 where
+  pub fits : r < 2 ^ 32
+  pub outside : ℕ
+  pub same : outside ≡ limbAt x j
+  pub bits : (t : ℕ) → t < 32 → testbit (pos r) t ≡ cond (inField start end (32 * j + t)) (testbit (pos inside) t) (testbit (pos outside) t)
+
+-- by any new bits that `inside` has within the field
+setField-limb : {x : ℤ} {start end j inside r : ℕ} (g : ℕ → Bool) → Laid x start end j inside r
+    → ((t : ℕ) → t < 32 → start ≤ 32 * j + t → 32 * j + t < end → testbit (pos inside) t ≡ g (32 * j + t - start))
+    → r ≡ limbAt (setField x start end g) j
+setField-limb {x} {start} {end} {j} {inside} {r} g laid k =
+    word-ext r (setField x start end g) (32 * j) (laid .fits) (λ t l.
+    laid .bits t l
+    ∙ by-field
+    (λ b. cond b (testbit (pos inside) t) (testbit (pos (laid .outside)) t) ≡ cond b (g (32 * j + t - start)) (testbit x (32 * j + t)))
+    start end (32 * j + t)
+    (k t l)
+    (λ o. window-bit x (32 * j) t (laid .outside) (32 * j + t) (laid .same) l refl)
+    ∙ sym (testbit-setField x start end g (32 * j + t)))
+
+-- by the low bits of y
 pub copyBitField-limb : {x : ℤ} {start end j inside r : ℕ} (y : ℤ) → Laid x start end j inside r
     → inside ≡ limbAt (shiftLeft y start) j → r ≡ limbAt (copyBitField x start end y) j
 unfolding copyBitField
 copyBitField-limb {x} {start} {end} {j} {inside} y laid e =
     setField-limb (λ i. testbit y i) laid (λ t l s u. shifted-bit y (32 * j) start t inside (32 * j + t - start) e l (omega arith))
 
--- the upper bits of the field come down, and the others go up
+-- rotated: the upper bits of the field come down to its start, and the others go up
 pub rotateBitField-limb : {x : ℤ} {start end by j upper others inside r : ℕ} → by ≤ end - start → Laid x start end j inside r
     → ((t : ℕ) → t < 32 → testbit (pos inside) t ≡ cond (ltb (32 * j + t) (start + by)) (testbit (pos upper) t) (testbit (pos others) t))
     → upper ≡ bitsFrom x (32 * j + (end - start - by)) → others ≡ limbAt (shiftLeft x by) j
@@ -94,7 +100,7 @@ rotateBitField-limb {x} {start} {end} {by} {j} {upper} {others} h laid k p q =
     (λ v. shifted-bit x (32 * j) by t others (start + (32 * j + t - start - by)) q l (omega arith)
     ∙ ap (λ (n : ℕ). testbit x (start + n)) (sym (rotate-high (end - start) by (32 * j + t - start) (omega arith) (omega arith)))))
 
--- bit i comes from bit start + end - 1 - i
+-- reversed: bit i comes from bit start + end - 1 - i
 pub reverseBitField-limb : {x : ℤ} {start end j w inside r : ℕ} → Laid x start end j inside r
     → ((t : ℕ) → t < 32 → testbit (pos inside) t ≡ testbit (pos w) (31 - t)) → w ≡ bitsFrom (shiftLeft x (32 * j + 32)) (start + end)
     → r ≡ limbAt (reverseBitField x start end) j

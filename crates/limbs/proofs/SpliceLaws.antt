@@ -12,11 +12,13 @@ use Rattle.bits.specs.Testbit.{testbit}
 use Rattle.bits.proofs.TestbitLaws.{by-lt}
 use Rattle.bits.proofs.FieldWords.{testbit-mod-lt, testbit-div-ge, testbit-digits, digits-lt-pow}
 
+-- it is a word again
 pub splice-lt : (low high k : ℕ) → k ≤ 32 → high < 2 ^ 32 → high / 2 ^ k * 2 ^ k + low % 2 ^ k < 2 ^ 32
 splice-lt low high k h l =
     let e : 32 ≡ 32 - k + k = omega arith in
     digits-lt-pow k 32 (high / 2 ^ k) (low % 2 ^ k) h (shr-lt (32 - k) k (subst (λ (n : ℕ). high < 2 ^ n) e l)) (mod-lt low (pow-pos k))
 
+-- its bits
 pub testbit-splice : (low high k t : ℕ)
     → testbit (pos (high / 2 ^ k * 2 ^ k + low % 2 ^ k)) t ≡ cond (ltb t k) (testbit (pos low) t) (testbit (pos high) t)
 testbit-splice low high k t =
@@ -27,7 +29,7 @@ testbit-splice low high k t =
     (testbit-mod-lt low k t)
     (testbit-div-ge high k t)
 
--- a position in a limb, and in the whole
+-- the test of a position in a limb, and of the position in the whole
 pub ltb-sub : (m t n : ℕ) → ltb t (n - m) ≡ ltb (m + t) n
 ltb-sub m t n =
     by-lt (λ b. b ≡ ltb (m + t) n) t (n - m) (λ l. sym (lt-ltb (m + t) n (omega arith))) (λ l. sym (le-ltb (m + t) n (omega arith)))

@@ -37,7 +37,13 @@ pub fn copy_field_limb(x: &[u32], y: &[u32], start: u64, end: u64, j: usize) -> 
     requires { ⌜ j < 2 ^ 32 ⌝ }
     ensures { λ r. ⌜ r ≡ limbAt (copyBitField (value (now (x .entry))) start end (value (now (y .entry)))) j ⌝ }
 {
-    lay(window_below(y, 32 * (j as u64), start), limb(x, j), start, end, j)
+    lay(
+        window_below(y, 32 * (j as u64), start),
+        limb(x, j),
+        start,
+        end,
+        j,
+    )
 }
 
 // A rotation by c moves the upper c bits of the field to its low end, and the others up by c.
@@ -51,7 +57,13 @@ pub fn rotate_limb(x: &[u32], start: u64, end: u64, by: u64, j: usize) -> u32
     let at = 32 * (j as u64);
     let upper = window(x, at + (end - start - by));
     let others = window_below(x, at, by);
-    lay(splice_at(upper, others, j, start + by), limb(x, j), start, end, j)
+    lay(
+        splice_at(upper, others, j, start + by),
+        limb(x, j),
+        start,
+        end,
+        j,
+    )
 }
 
 pub fn reverse_limb(x: &[u32], start: u64, end: u64, j: usize) -> u32

@@ -1,7 +1,7 @@
 -- `limbs::field::lay` meets its contract. Assumes nothing.
 use Prim.Native.Nat.{_+_, _*_}
 use mathlib.Core.Path.{ap, _∙_}
-use mathlib.Core.Bool.{Bool, cond}
+use mathlib.Core.Bool.{cond}
 use lib.Dec.{ltb}
 use lib.IntN.{pos}
 use Rattle.bits.specs.Testbit.{testbit}
