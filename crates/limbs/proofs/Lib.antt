@@ -1,6 +1,7 @@
 pub mod ValueLaws
 pub mod LimbLaws
 pub mod WindowLaws
+pub mod ReverseLaws
 pub mod MeasureLaws
 pub mod BufferLaws
 pub mod LogicalLaws
