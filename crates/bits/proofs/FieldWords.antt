@@ -40,7 +40,7 @@ unfolding shiftRight floorDiv
 testbit-div n = testbit-shiftRight (pos n)
 
 -- counted from bit 0 of n
-testbit-div-ge : (n k i : ℕ) → k ≤ i → testbit (pos (n / 2 ^ k)) (i - k) ≡ testbit (pos n) i
+pub testbit-div-ge : (n k i : ℕ) → k ≤ i → testbit (pos (n / 2 ^ k)) (i - k) ≡ testbit (pos n) i
 testbit-div-ge n k i h =
     testbit-div n k (i - k) ∙ (let e : k + (i - k) ≡ i = omega arith in ap (λ (j : ℕ). testbit (pos n) j) e)
 

@@ -89,14 +89,14 @@ permuted p n v size h l e = testbit-ext λ i.
     ∙ sym (testbit-permuteField-out p (pos v) 0 size i (inField-ge 0 size i u) ∙ testbit-mag-lt (pos v) i (lt-of-lt-of-le l (pow-mono u))))
 
 -- where bit j comes from
-rotate-low : (size c j : ℕ) → c ≤ size → j < c → rotateIndex size (pos c) j ≡ size - c + j
+pub rotate-low : (size c j : ℕ) → c ≤ size → j < c → rotateIndex size (pos c) j ≡ size - c + j
 unfolding rotateIndex modℕ
 rotate-low size c j h l =
     ap (λ (x : ℤ). modℕ x size) (pos-sub-lt j c l)
     ∙ ap (λ (n : ℕ). size - suc n) (let u : c - suc j < size = omega arith in mod-eq-of-lt u)
     ∙ (let e : size - suc (c - suc j) ≡ size - c + j = omega arith in e)
 
-rotate-high : (size c j : ℕ) → c ≤ j → j < size → rotateIndex size (pos c) j ≡ j - c
+pub rotate-high : (size c j : ℕ) → c ≤ j → j < size → rotateIndex size (pos c) j ≡ j - c
 unfolding rotateIndex modℕ
 rotate-high size c j h l =
     ap (λ (x : ℤ). modℕ x size) (pos-sub-ge j c h) ∙ (let u : j - c < size = omega arith in mod-eq-of-lt u)

@@ -7,7 +7,7 @@ use mathlib.Core.Bool.{Bool, true, false, cond}
 use lib.Dec.{T, leb, ltb}
 use lib.Pow.{pow-pos}
 use lib.IntN.{ℤ, pos, negsuc, negℤ, natAbs}
-use lib.Signed.{mag, ltZ, nonNeg}
+use lib.Signed.{mag, leZ, ltZ, nonNeg}
 use mir.Syntax.{w64}
 use mir.Val.{Fits, SFits, toZ, ofZ}
 use mir.ValLaws.{toZ-ofZ, toZ-pos, toZ-neg}
@@ -54,6 +54,10 @@ pub nonnegative-mag : (x : ℤ) → isNegative x ≡ false → x ≡ pos (mag x)
 unfolding isNegative
 nonnegative-mag (pos n) h = refl
 nonnegative-mag (negsuc n) h = let z : _≡_ {A = ℕ} 0 1 = cc in absurd (omega arith)
+
+pub natural-mag : (x : ℤ) → leZ (pos 0) x ≡ true → x ≡ pos (mag x)
+natural-mag (pos n) h = refl
+natural-mag (negsuc n) h = let z : _≡_ {A = ℕ} 0 1 = cc in absurd (omega arith)
 
 -- what the cast of a signed word to an unsigned one asks, and what it gives
 pub cast-word : {z : ℤ} {m : ℕ} → z ≡ pos m → m < 2 ^ 63 → T (nonNeg z) × Fits w64 (natAbs z)

@@ -1,8 +1,11 @@
 pub mod ValueLaws
 pub mod LimbLaws
 pub mod WindowLaws
+pub mod ReverseLaws
 pub mod MeasureLaws
 pub mod BufferLaws
 pub mod LogicalLaws
+pub mod SpliceLaws
+pub mod FieldLimbs
 pub mod OutcomeLaws
 pub mod Cases

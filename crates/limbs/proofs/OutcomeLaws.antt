@@ -61,6 +61,14 @@ pub operand-failed : (xs : List ℕ) (o : Outcome) → isOperand xs ≡ false �
 unfolding operand
 operand-failed xs o h = failed (isOperand xs) 7 o h
 
+pub operand-twice : (xs : List ℕ) (o : Outcome) → operand xs (operand xs o) ≡ operand xs o
+unfolding operand unless
+operand-twice xs o = go (isOperand xs)
+  where
+    go : (t : Bool) → cond t (cond t o (refused 7)) (refused 7) ≡ cond t o (refused 7)
+    go true = refl
+    go false = refl
+
 pub operand-length : (xs : List ℕ) → isOperand xs ≡ true → 0 < length xs
 unfolding isOperand
 operand-length xs h = leb-true 1 (length xs) (both-left (leb 1 (length xs)) (leb (length xs) mostLimbs) h)

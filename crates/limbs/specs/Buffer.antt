@@ -8,6 +8,7 @@
 --   Writes o out first r out′  ==  r is the answer, and out′ the buffer afterwards
 --   Puts f a b from to         ==  b is a, but for the limbs from one index up to, but not at, another: limb j of them is f j
 --   checked k o                ==  o where the refusal number k is 0, else that refusal
+--   Decides stages k           ==  k is what the stages of a call come to: their first refusal, or 0
 --   number o                   ==  the answer of a call that writes nothing
 -- The shortest limbs are written, or refusal 8 is given where they do not fit.
 use Prim.Native.Nat.{ℕ, _+_, _-_, _≤_, _<_}
@@ -30,6 +31,9 @@ unless test k outcome = cond test outcome (refused k)
 
 unfoldable pub checked : ℕ → Outcome → Outcome
 checked k outcome = cond (eqb k 0) outcome (refused k)
+
+pub record Decides (stages : Outcome → Outcome) (k : ℕ) : Type 0 where
+  pub so : (outcome : Outcome) → stages outcome ≡ checked k outcome
 
 unfoldable pub room : List ℕ → ℕ → ℕ
 room out first = length out - first

@@ -4,7 +4,7 @@ ghost use mathlib.Core.Bool.{true};
 ghost use lib.IntN.{pos, natAbs};
 ghost use lib.Signed.{leZ};
 ghost use Rattle.bits.specs.Range as range;
-ghost use Rattle.limbs.specs.Buffer.{Outcome, unless, checked};
+ghost use Rattle.limbs.specs.Buffer.{Outcome, unless, Decides};
 ghost use Rattle.limbs.specs.Operations.{isOperand, operand, field};
 
 const MOST_LIMBS: usize = 1024;
@@ -20,7 +20,7 @@ pub fn is_operand(x: &[u32]) -> bool
 }
 
 pub fn check_operands(x: &[u32], y: &[u32], z: &[u32]) -> u64
-    ensures { λ r. ⌜ ((o : Outcome) → operand (now (x .entry)) (operand (now (y .entry)) (operand (now (z .entry)) o)) ≡ checked r o) ⌝ }
+    ensures { λ r. ⌜ Decides (λ o. operand (now (x .entry)) (operand (now (y .entry)) (operand (now (z .entry)) o))) r ⌝ }
 {
     if !is_operand(x) {
         return 7;
@@ -48,7 +48,7 @@ fn is_field(start: i64, end: i64) -> bool
 
 // Two operands and a field.
 pub fn check_field(x: &[u32], y: &[u32], start: i64, end: i64) -> u64
-    ensures { λ r. ⌜ ((o : Outcome) → operand (now (x .entry)) (operand (now (y .entry)) (field start end o)) ≡ checked r o) ⌝ }
+    ensures { λ r. ⌜ Decides (λ o. operand (now (x .entry)) (operand (now (y .entry)) (field start end o))) r ⌝ }
 {
     let refusal = check_operands(x, y, y);
     if refusal != 0 {
@@ -59,7 +59,7 @@ pub fn check_field(x: &[u32], y: &[u32], start: i64, end: i64) -> u64
 
 // An operand, a position and a new bit.
 pub fn check_bit(x: &[u32], k: i64, bit: i64) -> u64
-    ensures { λ r. ⌜ ((o : Outcome) → operand (now (x .entry)) (unless (range.within (pos 0) k (pos 32766)) 5 (unless (range.within (pos 0) bit (pos 1)) 5 o)) ≡ checked r o) ⌝ }
+    ensures { λ r. ⌜ Decides (λ o. operand (now (x .entry)) (unless (range.within (pos 0) k (pos 32766)) 5 (unless (range.within (pos 0) bit (pos 1)) 5 o))) r ⌝ }
 {
     if !is_operand(x) {
         return 7;
@@ -72,7 +72,7 @@ pub fn check_bit(x: &[u32], k: i64, bit: i64) -> u64
 
 // An operand and a number that may not be negative.
 pub fn check_count(x: &[u32], n: i64) -> u64
-    ensures { λ r. ⌜ ((o : Outcome) → operand (now (x .entry)) (unless (leZ (pos 0) n) 5 o) ≡ checked r o) ⌝ }
+    ensures { λ r. ⌜ Decides (λ o. operand (now (x .entry)) (unless (leZ (pos 0) n) 5 o)) r ⌝ }
 {
     if !is_operand(x) {
         return 7;

@@ -9,6 +9,7 @@ ghost use Rattle.limbs.specs.Buffer.{Writes};
 ghost use Rattle.limbs.specs.Operations.{notOutcome, bitwiseOutcome, ifOutcome};
 
 mod check;
+mod field;
 mod index;
 mod limb;
 mod logical;
@@ -19,6 +20,7 @@ mod reverse;
 mod run;
 mod segment;
 mod shift;
+mod splice;
 
 use check::is_operand;
 use index::most;

@@ -6,8 +6,15 @@ pub enum Logic {
     Xor,
 }
 
+// A field has the bits from start up to, but not at, end. CopyField takes its bits from the second operand.
 pub enum Operation {
     Not,
     Logical(Logic),
     If,
+    ShiftLeft { by: u64 },
+    ShiftRight { by: u64 },
+    Field { start: u64, end: u64 },
+    CopyField { start: u64, end: u64 },
+    Rotate { start: u64, end: u64, by: u64 },
+    Reverse { start: u64, end: u64 },
 }

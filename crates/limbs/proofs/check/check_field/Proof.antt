@@ -2,29 +2,39 @@
 use mathlib.Core.Path.{_≡_, sym, ap, _∙_}
 use mathlib.Core.List.{List}
 use Prim.Native.Nat.{ℕ}
-use Rattle.limbs.specs.Buffer.{Outcome, checked}
+use Rattle.limbs.specs.Buffer.{Outcome, checked, Decides}
 use Rattle.limbs.specs.Operations.{operand, field}
 use Rattle.limbs.proofs.OutcomeLaws.{passed, failed, checked-none, checked-refused, operand-twice}
 use borrow.Author.Needs.{needs}
 use Rattle.limbs.proofs.check.check_field.Statement.{statement}
 use Rattle.limbs.proofs.check.check_field.Tie as tie
 
+-- the stages of both operands, where the second is tested twice
+stages : (x y : List ℕ) {k : ℕ} → Decides (λ o. operand x (operand y (operand y o))) k → (o : Outcome) → operand x (operand y o) ≡ checked k o
+stages x y d o = ap (operand x) (sym (operand-twice y o)) ∙ d .so o
+
 check-operands-requires : tie.Need-check-operands-requires
 check-operands-requires c κs = search needs
 
 returns : tie.Need-returns
-returns c =     λ o. stages c o ∙ ?
+returns c =
+    let k = c .before .check-operands .ensures in
+    record { so = λ o. stages _ _ k _ ∙ checked-refused _ _ (c .if1 .taken) ∙ sym (checked-refused _ o (c .if1 .taken)) }
 
 is-field-requires : tie.Need-is-field-requires
 is-field-requires c κs = search needs
 
 returns-2 : tie.Need-returns-2
 unfolding checked
-returns-2 c =     λ o. ?
+returns-2 c =
+    let k = c .before .before .before .check-operands .ensures in
+    record { so = λ o. stages _ _ k _ ∙ checked-none _ (c .before .before .if1 .left) ∙ c .before .is-field .ensures o ∙ passed _ 5 o (c .if2 .taken) }
 
 returns-3 : tie.Need-returns-3
 unfolding checked
-returns-3 c =     λ o. ?
+returns-3 c =
+    let k = c .before .before .before .check-operands .ensures in
+    record { so = λ o. stages _ _ k _ ∙ checked-none _ (c .before .before .if1 .left) ∙ c .before .is-field .ensures o ∙ failed _ 5 o (c .if2 .left) }
 
 pub check-field-spec : {M : Type 1} → statement M
 check-field-spec =

@@ -12,7 +12,8 @@ is-operand-requires c κs = search needs
 
 returns : tie.Need-returns
 unfolding operand checked
-returns c = λ o. failed-by 7 _ (c .before .is-operand .ensures) (c .if1 .taken)
+returns c =
+    record { so = λ o. failed-by 7 _ (c .before .is-operand .ensures) (c .if1 .taken) }
 
 is-operand-requires-2 : tie.Need-is-operand-requires-2
 is-operand-requires-2 c κs = search needs
@@ -20,8 +21,8 @@ is-operand-requires-2 c κs = search needs
 returns-2 : tie.Need-returns-2
 unfolding operand checked
 returns-2 c =
-    λ o. passed-by 7 _ (c .before .before .before .is-operand .ensures) (c .before .before .if1 .left)
-    ∙ failed-by 7 _ (c .before .is-operand2 .ensures) (c .if2 .taken)
+    record { so = λ o. passed-by 7 _ (c .before .before .before .is-operand .ensures) (c .before .before .if1 .left)
+    ∙ failed-by 7 _ (c .before .is-operand2 .ensures) (c .if2 .taken) }
 
 is-operand-requires-3 : tie.Need-is-operand-requires-3
 is-operand-requires-3 c κs = search needs
@@ -29,16 +30,16 @@ is-operand-requires-3 c κs = search needs
 returns-3 : tie.Need-returns-3
 unfolding operand checked
 returns-3 c =
-    λ o. passed-by 7 _ (c .before .before .before .before .before .is-operand .ensures) (c .before .before .before .before .if1 .left)
+    record { so = λ o. passed-by 7 _ (c .before .before .before .before .before .is-operand .ensures) (c .before .before .before .before .if1 .left)
     ∙ passed-by 7 _ (c .before .before .before .is-operand2 .ensures) (c .before .before .if2 .left)
-    ∙ failed-by 7 _ (c .before .is-operand3 .ensures) (c .if3 .taken)
+    ∙ failed-by 7 _ (c .before .is-operand3 .ensures) (c .if3 .taken) }
 
 returns-4 : tie.Need-returns-4
 unfolding operand checked
 returns-4 c =
-    λ o. passed-by 7 _ (c .before .before .before .before .before .is-operand .ensures) (c .before .before .before .before .if1 .left)
+    record { so = λ o. passed-by 7 _ (c .before .before .before .before .before .is-operand .ensures) (c .before .before .before .before .if1 .left)
     ∙ passed-by 7 _ (c .before .before .before .is-operand2 .ensures) (c .before .before .if2 .left)
-    ∙ passed-by 7 _ (c .before .is-operand3 .ensures) (c .if3 .left)
+    ∙ passed-by 7 _ (c .before .is-operand3 .ensures) (c .if3 .left) }
 
 pub check-operands-spec : {M : Type 1} → statement M
 check-operands-spec =

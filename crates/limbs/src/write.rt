@@ -1,0 +1,86 @@
+// The limbs of a described result, by a writer for each operation. Limbs that lie whole inside or outside a field are copied;
+// only those at its ends are put together bit by bit.
+ghost use mathlib.Core.Path.{_≡_};
+ghost use Prim.Native.Nat.{_-_, _<_, _≤_, _^_};
+ghost use lib.IntN.{pos};
+ghost use lib.ListN.{length};
+ghost use Rattle.bits.specs.Shift.{shiftLeft, shiftRight};
+ghost use Rattle.bits.specs.Field.{bitField, copyBitField, rotateBitField, reverseBitField};
+ghost use Rattle.limbs.specs.Value.{value, limbAt};
+ghost use Rattle.limbs.specs.Buffer.{Puts};
+ghost use Rattle.limbs.specs.Results.{meaning, Proper};
+use super::field::reverse_limb;
+use super::index::gap;
+use super::index::least;
+use super::index::most;
+use super::logical::write_if;
+use super::logical::write_logical;
+use super::logical::write_not;
+use super::measure::limb_of;
+use super::result::Operation;
+use super::segment::put_windows;
+use super::segment::put_zeros;
+
+// Any operation, limb by limb.
+fn put_limbs(operation: Operation, x: &[u32], y: &[u32], z: &[u32], from: usize, to: usize, part: &mut [u32])
+    requires { ⌜ (0 < length (now x)) × ((0 < length (now y)) × (0 < length (now z))) ⌝ }
+    requires { ⌜ Proper operation ⌝ }
+    requires { ⌜ (from ≤ to) × (to ≤ length (now part)) ⌝ }
+    requires { ⌜ to < 2 ^ 32 ⌝ }
+    ensures { λ r. ⌜ Puts (limbAt (meaning operation (value (now (x .entry))) (value (now (y .entry))) (value (now (z .entry))))) (now (part .entry)) (now (part .exit)) from to ⌝ }
+{
+    let mut j = from;
+    while j < to {
+        part[j] = limb_of(operation, x, y, z, j);
+        j += 1;
+    }
+}
+
+fn write_shift_left(x: &[u32], by: u64, n: usize, part: &mut [u32])
+    requires { ⌜ (0 < length (now x)) × (by < 2 ^ 32) ⌝ }
+    requires { ⌜ (n ≤ length (now part)) × (n < 2 ^ 32) ⌝ }
+    ensures { λ r. ⌜ Puts (limbAt (shiftLeft (value (now (x .entry))) by)) (now (part .entry)) (now (part .exit)) 0 n ⌝ }
+{
+    let low = least((by / 32) as usize, n);
+    let next = least(low + 1, n);
+    put_zeros(0, low, part);
+    put_limbs(Operation::ShiftLeft { by }, x, x, x, low, next, part);
+    put_windows(x, gap(by, 32 * (next as u64)), next, n, part);
+}
+
+fn write_shift_right(x: &[u32], by: u64, n: usize, part: &mut [u32])
+    requires { ⌜ (0 < length (now x)) × (by < 2 ^ 32) ⌝ }
+    requires { ⌜ (n ≤ length (now part)) × (n < 2 ^ 32) ⌝ }
+    ensures { λ r. ⌜ Puts (limbAt (shiftRight (value (now (x .entry))) by)) (now (part .entry)) (now (part .exit)) 0 n ⌝ }
+{
+    put_windows(x, by, 0, n, part);
+}
+
+fn write_field(x: &[u32], start: u64, end: u64, n: usize, part: &mut [u32])
+    requires { ⌜ 0 < length (now x) ⌝ }
+    requires { ⌜ (start ≤ end) × (end < 2 ^ 32) ⌝ }
+    requires { ⌜ (n ≤ length (now part)) × (n < 2 ^ 32) ⌝ }
+    ensures { λ r. ⌜ Puts (limbAt (bitField (value (now (x .entry))) start end)) (now (part .entry)) (now (part .exit)) 0 n ⌝ }
+{
+    let whole = least(((end - start) / 32) as usize, n);
+    put_windows(x, start, 0, whole, part);
+    put_limbs(Operation::Field { start, end }, x, x, x, whole, n, part);
+}
+
+fn write_copy_field(x: &[u32], y: &[u32], start: u64, end: u64, n: usize, part: &mut [u32])
+    requires { ⌜ (0 < length (now x)) × (0 < length (now y)) ⌝ }
+    requires { ⌜ (start ≤ end) × (end < 2 ^ 32) ⌝ }
+    requires { ⌜ (n ≤ length (now part)) × (n < 2 ^ 32) ⌝ }
+    ensures { λ r. ⌜ Puts (limbAt (copyBitField (value (now (x .entry))) start end (value (now (y .entry))))) (now (part .entry)) (now (part .exit)) 0 n ⌝ }
+{
+    let low = least((start / 32) as usize, n);
+    let inside = least(low + 1, n);
+    let top = most(inside, least((end / 32) as usize, n));
+    let above = least(top + 1, n);
+    put_windows(x, 0, 0, low, part);
+    put_limbs(Operation::CopyField { start, end }, x, y, x, low, inside, part);
+    put_windows(y, gap(start, 32 * (inside as u64)), inside, top, part);
+    put_limbs(Operation::CopyField { start, end }, x, y, x, top, above, part);
+    put_windows(x, 32 * (above as u64), above, n, part);
+}
+
