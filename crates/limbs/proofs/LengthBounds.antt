@@ -18,6 +18,7 @@ use Rattle.bits.proofs.FieldWords.{setField-lt}
 
 -- ---- right shifts
 
+-- a right shift is shorter by k, or of length 0
 shiftRight-length-sub : (x : ℤ) (k : ℕ) → bitLength (shiftRight x k) ≤ bitLength x - k
 shiftRight-length-sub x k =
     bitLength-least-bits (shiftRight x k) (bitLength x - k) (λ i l.
@@ -56,6 +57,7 @@ ones-exact k = omega (arith, shiftLeft-length (negsuc 0) k, bitLength-le (negsuc
         ∙ testbit-above (shiftLeft (negsuc 0) k) (k - 1) (omega arith)
         ∙ isNegative-shiftLeft (negsuc 0) k)
 
+-- for every x but 0
 pub shiftLeft-length-exact : (x : ℤ) (k : ℕ) → (x ≡ pos 0 → ⊥) → bitLength (shiftLeft x k) ≡ bitLength x + k
 shiftLeft-length-exact (pos zero) k h = absurd (h refl)
 shiftLeft-length-exact (pos (suc n)) k h = long-exact (pos (suc n)) k (omega arith)
@@ -72,6 +74,7 @@ bitField-length x start end =
     ∙ ap (λ (b : Bool). b && testbit x (start + i)) (le-ltb i (end - start) l)
     ∙ sym (isNegative-ofBits (end - start) (λ j. testbit x (start + j)) (pos 0)))
 
+-- k bits are enough where they are enough for x and the field lies in them
 pub setField-length : (x : ℤ) (start end : ℕ) (g : ℕ → Bool) (k : ℕ) → bitLength x ≤ k → end ≤ k → bitLength (setField x start end g) ≤ k
 setField-length x start end g k h l = bitLength-le (setField x start end g) k (setField-lt x start end g k l (mag-lt x k h))
 
