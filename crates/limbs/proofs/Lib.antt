@@ -2,6 +2,7 @@ pub mod ValueLaws
 pub mod LimbLaws
 pub mod WindowLaws
 pub mod ReverseLaws
+pub mod LengthBounds
 pub mod MeasureLaws
 pub mod BufferLaws
 pub mod LogicalLaws

@@ -35,6 +35,7 @@ below-each f (suc n) h t l = go (below-each f n (both-right (f n) (below f n) h)
 abbrev pub swapped : ℕ → ℕ → ℕ → ℕ
 swapped w k mask = bitOr (bitAnd (w / 2 ^ k) mask) (bitAnd w mask * 2 ^ k % 2 ^ 32)
 
+-- its bits
 testbit-swapped : (w k mask t : ℕ) → t < 32
     → testbit (pos (swapped w k mask)) t
     ≡ testbit (pos w) (k + t) && testbit (pos mask) t || testbit (pos w) (t - k) && (not (ltb t k) && testbit (pos mask) (t - k))
@@ -68,6 +69,7 @@ record Moves (r w : ℕ) (p : ℕ → ℕ) : Type 0 where
   bits : (t : ℕ) → t < 32 → testbit (pos r) t ≡ testbit (pos w) (p t)
   inside : (t : ℕ) → t < 32 → p t < 32
 
+-- a swap, where the mask passes both tests at all 32 places
 swap-moves : (w k mask r : ℕ) → below (paired k mask) 32 ≡ true → below (λ t. ltb (source k mask t) 32) 32 ≡ true → r ≡ swapped w k mask
     → Moves r w (source k mask)
 unfolding source paired
@@ -93,10 +95,12 @@ moves-again {q} a b = record {
 order : ℕ → ℕ
 order t = source 1 0x55555555 (source 2 0x33333333 (source 4 0x0F0F0F0F (source 8 0x00FF00FF (source 16 0x0000FFFF t))))
 
+-- it is 31 - t, tested at all 32 places
 order-reverse : (t : ℕ) → t < 32 → order t ≡ 31 - t
 unfolding order below source testbit odd
 order-reverse t l = eqb-true (order t) (31 - t) (below-each (λ t. eqb (order t) (31 - t)) 32 refl t l)
 
+-- the five swaps reverse the 32 bits
 pub testbit-reversed : (w a b c d r : ℕ) → a ≡ swapped w 1 0x55555555 → b ≡ swapped a 2 0x33333333 → c ≡ swapped b 4 0x0F0F0F0F
     → d ≡ swapped c 8 0x00FF00FF → r ≡ swapped d 16 0x0000FFFF → (t : ℕ) → t < 32 → testbit (pos r) t ≡ testbit (pos w) (31 - t)
 unfolding order below paired source testbit odd xor

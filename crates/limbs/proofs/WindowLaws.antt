@@ -19,23 +19,24 @@ bitsFrom-same : (y z : ℤ) (at from : ℕ) → shiftRight y at ≡ shiftRight z
 unfolding bitsFrom
 bitsFrom-same y z at from e = ap (λ (x : ℤ). modℕ x (2 ^ 32)) e
 
+-- a right shift moves the position
 pub bitsFrom-shiftRight : (z : ℤ) (by at : ℕ) → bitsFrom z (at + by) ≡ bitsFrom (shiftRight z by) at
 bitsFrom-shiftRight z by at =
     let e : at + by ≡ by + at = omega arith in
     ap (bitsFrom z) e ∙ bitsFrom-same z (shiftRight z by) (by + at) at (sym (shiftRight-compose z by at))
 
--- from `by` on
+-- a left shift by `by`, from that position on
 pub bitsFrom-shiftLeft-ge : (z : ℤ) (by at : ℕ) → by ≤ at → bitsFrom z (at - by) ≡ bitsFrom (shiftLeft z by) at
 bitsFrom-shiftLeft-ge z by at h = bitsFrom-same z (shiftLeft z by) (at - by) at (sym (shiftRight-shiftLeft-ge z by at h))
 
--- all 32 bits below `by`
+-- all 32 bits below it
 pub bitsFrom-shiftLeft-zero : (z : ℤ) (by at : ℕ) → at + 32 ≤ by → 0 ≡ bitsFrom (shiftLeft z by) at
 bitsFrom-shiftLeft-zero z by at h =
     word-ext 0 (shiftLeft z by) at (pow-pos 32) (λ t k.
     testbit-zero t
     ∙ sym (testbit-shiftLeft z by (at + t) ∙ ap (λ (b : Bool). not b && testbit z (at + t - by)) (lt-ltb (at + t) by (omega arith))))
 
--- some of them below `by`: the lowest limb above a limb of zeros
+-- some of them below it: the lowest limb above a limb of zeros
 pub bitsFrom-shiftLeft-lt : (z : ℤ) (by at : ℕ) → at < by → by < at + 32
     → (bitsFrom z 0 * 2 ^ 32 + 0) / 2 ^ (32 - (by - at)) % 2 ^ 32 ≡ bitsFrom (shiftLeft z by) at
 bitsFrom-shiftLeft-lt z by at h l =
