@@ -33,9 +33,9 @@ meaning (Reverse start end) x y z = reverseBitField x start end
 
 -- a rotation is by at most the size of the field
 unfoldable pub Proper : Operation → Type 0
-Proper Not = ⊤
-Proper (Logical l) = ⊤
-Proper If = ⊤
+Proper Not = Unit {0}
+Proper (Logical l) = Unit {0}
+Proper If = Unit {0}
 Proper (ShiftLeft by) = by < 2 ^ 32
 Proper (ShiftRight by) = by < 2 ^ 32
 Proper (Field start end) = (start ≤ end) × (end < 2 ^ 32)

@@ -21,6 +21,7 @@ mod run;
 mod segment;
 mod shift;
 mod splice;
+mod write;
 
 use check::is_operand;
 use index::most;

@@ -21,7 +21,15 @@ pub fn refuse(k: u64) -> Written
 }
 
 // A measured result: tested for room, and written.
-pub fn place(operation: Operation, x: &[u32], y: &[u32], z: &[u32], n: usize, out: &mut [u32], first: u64) -> Written
+pub fn place(
+    operation: Operation,
+    x: &[u32],
+    y: &[u32],
+    z: &[u32],
+    n: usize,
+    out: &mut [u32],
+    first: u64,
+) -> Written
     requires { ⌜ 0 < length (now x) ⌝ }
     requires { ⌜ 0 < length (now y) ⌝ }
     requires { ⌜ 0 < length (now z) ⌝ }

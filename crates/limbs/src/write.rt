@@ -22,7 +22,15 @@ use super::segment::put_windows;
 use super::segment::put_zeros;
 
 // Any operation, limb by limb.
-fn put_limbs(operation: Operation, x: &[u32], y: &[u32], z: &[u32], from: usize, to: usize, part: &mut [u32])
+fn put_limbs(
+    operation: Operation,
+    x: &[u32],
+    y: &[u32],
+    z: &[u32],
+    from: usize,
+    to: usize,
+    part: &mut [u32],
+)
     requires { ⌜ (0 < length (now x)) × ((0 < length (now y)) × (0 < length (now z))) ⌝ }
     requires { ⌜ Proper operation ⌝ }
     requires { ⌜ (from ≤ to) × (to ≤ length (now part)) ⌝ }
@@ -78,9 +86,112 @@ fn write_copy_field(x: &[u32], y: &[u32], start: u64, end: u64, n: usize, part: 
     let top = most(inside, least((end / 32) as usize, n));
     let above = least(top + 1, n);
     put_windows(x, 0, 0, low, part);
-    put_limbs(Operation::CopyField { start, end }, x, y, x, low, inside, part);
+    put_limbs(
+        Operation::CopyField { start, end },
+        x,
+        y,
+        x,
+        low,
+        inside,
+        part,
+    );
     put_windows(y, gap(start, 32 * (inside as u64)), inside, top, part);
-    put_limbs(Operation::CopyField { start, end }, x, y, x, top, above, part);
+    put_limbs(
+        Operation::CopyField { start, end },
+        x,
+        y,
+        x,
+        top,
+        above,
+        part,
+    );
     put_windows(x, 32 * (above as u64), above, n, part);
 }
 
+// The upper bits of the field stand below `middle` afterwards, the others from there on.
+fn write_rotate(x: &[u32], start: u64, end: u64, by: u64, n: usize, part: &mut [u32])
+    requires { ⌜ 0 < length (now x) ⌝ }
+    requires { ⌜ (start ≤ end) × (end < 2 ^ 32) ⌝ }
+    requires { ⌜ by ≤ end - start ⌝ }
+    requires { ⌜ (n ≤ length (now part)) × (n < 2 ^ 32) ⌝ }
+    ensures { λ r. ⌜ Puts (limbAt (rotateBitField (value (now (x .entry))) start end (pos by))) (now (part .entry)) (now (part .exit)) 0 n ⌝ }
+{
+    let low = least((start / 32) as usize, n);
+    let inside = least(low + 1, n);
+    let middle = most(inside, least(((start + by) / 32) as usize, n));
+    let others = least(middle + 1, n);
+    let top = most(others, least((end / 32) as usize, n));
+    let above = least(top + 1, n);
+    put_windows(x, 0, 0, low, part);
+    put_limbs(
+        Operation::Rotate { start, end, by },
+        x,
+        x,
+        x,
+        low,
+        inside,
+        part,
+    );
+    put_windows(
+        x,
+        32 * (inside as u64) + (end - start - by),
+        inside,
+        middle,
+        part,
+    );
+    put_limbs(
+        Operation::Rotate { start, end, by },
+        x,
+        x,
+        x,
+        middle,
+        others,
+        part,
+    );
+    put_windows(x, gap(by, 32 * (others as u64)), others, top, part);
+    put_limbs(
+        Operation::Rotate { start, end, by },
+        x,
+        x,
+        x,
+        top,
+        above,
+        part,
+    );
+    put_windows(x, 32 * (above as u64), above, n, part);
+}
+
+fn write_reverse(x: &[u32], start: u64, end: u64, n: usize, part: &mut [u32])
+    requires { ⌜ 0 < length (now x) ⌝ }
+    requires { ⌜ (start ≤ end) × (end < 2 ^ 32) ⌝ }
+    requires { ⌜ (n ≤ length (now part)) × (n < 2 ^ 32) ⌝ }
+    ensures { λ r. ⌜ Puts (limbAt (reverseBitField (value (now (x .entry))) start end)) (now (part .entry)) (now (part .exit)) 0 n ⌝ }
+{
+    let mut j = 0;
+    while j < n {
+        part[j] = reverse_limb(x, start, end, j);
+        j += 1;
+    }
+}
+
+// The first n limbs, by the operation's own writer.
+pub fn write(operation: Operation, x: &[u32], y: &[u32], z: &[u32], n: usize, part: &mut [u32])
+    requires { ⌜ 0 < length (now x) ⌝ }
+    requires { ⌜ 0 < length (now y) ⌝ }
+    requires { ⌜ 0 < length (now z) ⌝ }
+    requires { ⌜ Proper operation ⌝ }
+    requires { ⌜ (n ≤ length (now part)) × (n < 2 ^ 32) ⌝ }
+    ensures { λ r. ⌜ Puts (limbAt (meaning operation (value (now (x .entry))) (value (now (y .entry))) (value (now (z .entry))))) (now (part .entry)) (now (part .exit)) 0 n ⌝ }
+{
+    match operation {
+        Operation::Not => write_not(x, 0, n, part),
+        Operation::Logical(by) => write_logical(by, x, y, n, part),
+        Operation::If => write_if(x, y, z, 0, n, part),
+        Operation::ShiftLeft { by } => write_shift_left(x, by, n, part),
+        Operation::ShiftRight { by } => write_shift_right(x, by, n, part),
+        Operation::Field { start, end } => write_field(x, start, end, n, part),
+        Operation::CopyField { start, end } => write_copy_field(x, y, start, end, n, part),
+        Operation::Rotate { start, end, by } => write_rotate(x, start, end, by, n, part),
+        Operation::Reverse { start, end } => write_reverse(x, start, end, n, part),
+    }
+}

@@ -22,8 +22,10 @@ within-requires c κs = search needs
 returns-2 : tie.Need-returns-2
 unfolding operand checked
 returns-2 c =
-    record { so = λ o. passed-by 7 _ (c .before .before .before .is-operand .ensures) (c .before .before .if1 .left)
-    ∙ failed-by 5 _ (rw (back (c .before .before .before .before .before .fits .k)) at (c .before .within .ensures)) (c .if2 .taken) }
+    record {
+      so = λ o. passed-by 7 _ (c .before .before .before .is-operand .ensures) (c .before .before .if1 .left)
+          ∙ failed-by 5 _ (rw (back (c .before .before .before .before .before .fits .k)) at (c .before .within .ensures)) (c .if2 .taken);
+    }
 
 within-requires-2 : tie.Need-within-requires-2
 within-requires-2 c κs = search needs
@@ -31,16 +33,20 @@ within-requires-2 c κs = search needs
 returns-3 : tie.Need-returns-3
 unfolding operand checked
 returns-3 c =
-    record { so = λ o. passed-by 7 _ (c .before .before .before .before .before .is-operand .ensures) (c .before .before .before .before .if1 .left)
-    ∙ passed-by 5 _ (rw (back (c .before .before .before .before .before .before .before .fits .k)) at (c .before .before .before .within .ensures)) (c .before .before .if2 .left)
-    ∙ passed _ 5 _ (sym (rw (back (c .before .before .before .before .before .before .before .fits .bit)) at (c .before .within2 .ensures)) ∙ c .if3 .taken) }
+    record {
+      so = λ o. passed-by 7 _ (c .before .before .before .before .before .is-operand .ensures) (c .before .before .before .before .if1 .left)
+          ∙ passed-by 5 _ (rw (back (c .before .before .before .before .before .before .before .fits .k)) at (c .before .before .before .within .ensures)) (c .before .before .if2 .left)
+          ∙ passed _ 5 _ (sym (rw (back (c .before .before .before .before .before .before .before .fits .bit)) at (c .before .within2 .ensures)) ∙ c .if3 .taken);
+    }
 
 returns-4 : tie.Need-returns-4
 unfolding operand checked
 returns-4 c =
-    record { so = λ o. passed-by 7 _ (c .before .before .before .before .before .is-operand .ensures) (c .before .before .before .before .if1 .left)
-    ∙ passed-by 5 _ (rw (back (c .before .before .before .before .before .before .before .fits .k)) at (c .before .before .before .within .ensures)) (c .before .before .if2 .left)
-    ∙ failed _ 5 _ (sym (rw (back (c .before .before .before .before .before .before .before .fits .bit)) at (c .before .within2 .ensures)) ∙ c .if3 .left) }
+    record {
+      so = λ o. passed-by 7 _ (c .before .before .before .before .before .is-operand .ensures) (c .before .before .before .before .if1 .left)
+          ∙ passed-by 5 _ (rw (back (c .before .before .before .before .before .before .before .fits .k)) at (c .before .before .before .within .ensures)) (c .before .before .if2 .left)
+          ∙ failed _ 5 _ (sym (rw (back (c .before .before .before .before .before .before .before .fits .bit)) at (c .before .within2 .ensures)) ∙ c .if3 .left);
+    }
 
 pub check-bit-spec : {M : Type 1} → statement M
 check-bit-spec =

@@ -21,14 +21,18 @@ returns c =
 returns-2 : tie.Need-returns-2
 unfolding operand checked
 returns-2 c =
-    record { so = λ o. passed-by 7 _ (c .before .before .is-operand .ensures) (c .before .if1 .left)
-    ∙ passed _ 5 _ (sym (ap (leZ (pos 0)) (back (c .before .before .before .before .fits .n))) ∙ c .if2 .taken) }
+    record {
+      so = λ o. passed-by 7 _ (c .before .before .is-operand .ensures) (c .before .if1 .left)
+          ∙ passed _ 5 _ (sym (ap (leZ (pos 0)) (back (c .before .before .before .before .fits .n))) ∙ c .if2 .taken);
+    }
 
 returns-3 : tie.Need-returns-3
 unfolding operand checked
 returns-3 c =
-    record { so = λ o. passed-by 7 _ (c .before .before .is-operand .ensures) (c .before .if1 .left)
-    ∙ failed _ 5 _ (sym (ap (leZ (pos 0)) (back (c .before .before .before .before .fits .n))) ∙ c .if2 .left) }
+    record {
+      so = λ o. passed-by 7 _ (c .before .before .is-operand .ensures) (c .before .if1 .left)
+          ∙ failed _ 5 _ (sym (ap (leZ (pos 0)) (back (c .before .before .before .before .fits .n))) ∙ c .if2 .left);
+    }
 
 pub check-count-spec : {M : Type 1} → statement M
 check-count-spec = tie.close (tie.spec is-operand-requires returns returns-2 returns-3)

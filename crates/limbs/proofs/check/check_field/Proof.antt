@@ -1,6 +1,7 @@
 -- `limbs::check::check_field` meets its contract. Assumes nothing.
 use mathlib.Core.Path.{_≡_, sym, ap, _∙_}
 use mathlib.Core.List.{List}
+use Rattle.bits.proofs.WordLaws.{back}
 use Prim.Native.Nat.{ℕ}
 use Rattle.limbs.specs.Buffer.{Outcome, checked, Decides}
 use Rattle.limbs.specs.Operations.{operand, field}
@@ -28,13 +29,15 @@ returns-2 : tie.Need-returns-2
 unfolding checked
 returns-2 c =
     let k = c .before .before .before .check-operands .ensures in
-    record { so = λ o. stages _ _ k _ ∙ checked-none _ (c .before .before .if1 .left) ∙ c .before .is-field .ensures o ∙ passed _ 5 o (c .if2 .taken) }
+    let f = c .before .before .before .before .before .before .fits in
+    record { so = λ o. stages _ _ k _ ∙ checked-none _ (c .before .before .if1 .left) ∙ (rw (back (f .start), back (f .end)) at (c .before .is-field .ensures o)) ∙ passed _ 5 o (c .if2 .taken) }
 
 returns-3 : tie.Need-returns-3
 unfolding checked
 returns-3 c =
     let k = c .before .before .before .check-operands .ensures in
-    record { so = λ o. stages _ _ k _ ∙ checked-none _ (c .before .before .if1 .left) ∙ c .before .is-field .ensures o ∙ failed _ 5 o (c .if2 .left) }
+    let f = c .before .before .before .before .before .before .fits in
+    record { so = λ o. stages _ _ k _ ∙ checked-none _ (c .before .before .if1 .left) ∙ (rw (back (f .start), back (f .end)) at (c .before .is-field .ensures o)) ∙ failed _ 5 o (c .if2 .left) }
 
 pub check-field-spec : {M : Type 1} → statement M
 check-field-spec =

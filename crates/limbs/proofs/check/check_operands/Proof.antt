@@ -21,8 +21,10 @@ is-operand-requires-2 c κs = search needs
 returns-2 : tie.Need-returns-2
 unfolding operand checked
 returns-2 c =
-    record { so = λ o. passed-by 7 _ (c .before .before .before .is-operand .ensures) (c .before .before .if1 .left)
-    ∙ failed-by 7 _ (c .before .is-operand2 .ensures) (c .if2 .taken) }
+    record {
+      so = λ o. passed-by 7 _ (c .before .before .before .is-operand .ensures) (c .before .before .if1 .left)
+          ∙ failed-by 7 _ (c .before .is-operand2 .ensures) (c .if2 .taken);
+    }
 
 is-operand-requires-3 : tie.Need-is-operand-requires-3
 is-operand-requires-3 c κs = search needs
@@ -30,16 +32,20 @@ is-operand-requires-3 c κs = search needs
 returns-3 : tie.Need-returns-3
 unfolding operand checked
 returns-3 c =
-    record { so = λ o. passed-by 7 _ (c .before .before .before .before .before .is-operand .ensures) (c .before .before .before .before .if1 .left)
-    ∙ passed-by 7 _ (c .before .before .before .is-operand2 .ensures) (c .before .before .if2 .left)
-    ∙ failed-by 7 _ (c .before .is-operand3 .ensures) (c .if3 .taken) }
+    record {
+      so = λ o. passed-by 7 _ (c .before .before .before .before .before .is-operand .ensures) (c .before .before .before .before .if1 .left)
+          ∙ passed-by 7 _ (c .before .before .before .is-operand2 .ensures) (c .before .before .if2 .left)
+          ∙ failed-by 7 _ (c .before .is-operand3 .ensures) (c .if3 .taken);
+    }
 
 returns-4 : tie.Need-returns-4
 unfolding operand checked
 returns-4 c =
-    record { so = λ o. passed-by 7 _ (c .before .before .before .before .before .is-operand .ensures) (c .before .before .before .before .if1 .left)
-    ∙ passed-by 7 _ (c .before .before .before .is-operand2 .ensures) (c .before .before .if2 .left)
-    ∙ passed-by 7 _ (c .before .is-operand3 .ensures) (c .if3 .left) }
+    record {
+      so = λ o. passed-by 7 _ (c .before .before .before .before .before .is-operand .ensures) (c .before .before .before .before .if1 .left)
+          ∙ passed-by 7 _ (c .before .before .before .is-operand2 .ensures) (c .before .before .if2 .left)
+          ∙ passed-by 7 _ (c .before .is-operand3 .ensures) (c .if3 .left);
+    }
 
 pub check-operands-spec : {M : Type 1} → statement M
 check-operands-spec =

@@ -1,0 +1,57 @@
+-- `limbs::write::put_limbs` meets its contract, turn by turn. Assumes nothing.
+use native.Mathlib.Omega.{arith}
+use Prim.Native.Nat.{_-_}
+use Rattle.limbs.specs.Value.{value, limbAt}
+use Rattle.limbs.specs.Results.{meaning}
+use Rattle.limbs.proofs.BufferLaws.{Turn, turn-none, turn-more, turn-all}
+use Rattle.limbs.proofs.write.put_limbs.Statement.{statement}
+use Rattle.limbs.proofs.write.put_limbs.Tie as tie
+
+abbrev Inv-loop : tie.InvT-loop
+Inv-loop operation x y z from to part₀ j₀ part j = Turn (limbAt (meaning operation (value x) (value y) (value z))) part₀ part from to j
+
+abbrev μ-loop : tie.MeasureT-loop
+μ-loop operation x y z from to part₀ j₀ part j = to - j
+
+loop-holds : tie.Need-loop-holds Inv-loop μ-loop
+loop-holds c = turn-none _ _ _ _ (omega arith)
+
+limb-of-requires : tie.Need-limb-of-requires Inv-loop μ-loop
+limb-of-requires c κs = ?
+
+mul-part : tie.Need-mul-part Inv-loop μ-loop
+mul-part c = omega arith
+
+slice-write-part : tie.Need-slice-write-part Inv-loop μ-loop
+slice-write-part c = omega arith
+
+add-j : tie.Need-add-j Inv-loop μ-loop
+add-j c = omega arith
+
+loop-less : tie.Need-loop-less Inv-loop μ-loop
+loop-less c = omega arith
+
+loop-again : tie.Need-loop-again Inv-loop μ-loop
+loop-again c = turn-more _ (c .before .before .loop .inv) (c .limb-of .ensures) (c .before .loop-test .taken) (omega arith)
+
+same-length : tie.Need-same-length Inv-loop μ-loop
+same-length c = c .before .loop .inv .so-far .size
+
+returns : tie.Need-returns Inv-loop μ-loop
+returns c = turn-all (c .before .loop .inv) (c .loop-test .left)
+
+pub put-limbs-spec : {M : Type 1} → statement M
+put-limbs-spec =
+    tie.close
+    (tie.spec
+    Inv-loop
+    μ-loop
+    loop-holds
+    limb-of-requires
+    mul-part
+    slice-write-part
+    add-j
+    loop-less
+    loop-again
+    same-length
+    returns)

@@ -1,0 +1,57 @@
+-- `limbs::write::write_reverse` meets its contract, turn by turn. Assumes nothing.
+use native.Mathlib.Omega.{arith}
+use Prim.Native.Nat.{_-_}
+use Rattle.bits.specs.Field.{reverseBitField}
+use Rattle.limbs.specs.Value.{value, limbAt}
+use Rattle.limbs.proofs.BufferLaws.{Turn, turn-none, turn-more, turn-all}
+use Rattle.limbs.proofs.write.write_reverse.Statement.{statement}
+use Rattle.limbs.proofs.write.write_reverse.Tie as tie
+
+abbrev Inv-loop : tie.InvT-loop
+Inv-loop x start end n part₀ j₀ part j = Turn (limbAt (reverseBitField (value x) start end)) part₀ part 0 n j
+
+abbrev μ-loop : tie.MeasureT-loop
+μ-loop x start end n part₀ j₀ part j = n - j
+
+loop-holds : tie.Need-loop-holds Inv-loop μ-loop
+loop-holds c = turn-none _ _ _ _ (omega arith)
+
+reverse-limb-requires : tie.Need-reverse-limb-requires Inv-loop μ-loop
+reverse-limb-requires c κs = ?
+
+mul-part : tie.Need-mul-part Inv-loop μ-loop
+mul-part c = omega arith
+
+slice-write-part : tie.Need-slice-write-part Inv-loop μ-loop
+slice-write-part c = omega arith
+
+add-j : tie.Need-add-j Inv-loop μ-loop
+add-j c = omega arith
+
+loop-less : tie.Need-loop-less Inv-loop μ-loop
+loop-less c = omega arith
+
+loop-again : tie.Need-loop-again Inv-loop μ-loop
+loop-again c = turn-more _ (c .before .before .loop .inv) (c .reverse-limb .ensures) (c .before .loop-test .taken) (omega arith)
+
+same-length : tie.Need-same-length Inv-loop μ-loop
+same-length c = c .before .loop .inv .so-far .size
+
+returns : tie.Need-returns Inv-loop μ-loop
+returns c = turn-all (c .before .loop .inv) (c .loop-test .left)
+
+pub write-reverse-spec : {M : Type 1} → statement M
+write-reverse-spec =
+    tie.close
+    (tie.spec
+    Inv-loop
+    μ-loop
+    loop-holds
+    reverse-limb-requires
+    mul-part
+    slice-write-part
+    add-j
+    loop-less
+    loop-again
+    same-length
+    returns)

@@ -1,0 +1,26 @@
+-- `limbs::write::write_shift_right` meets its contract. Assumes nothing.
+use native.Mathlib.Omega.{arith}
+use Prim.Native.Nat.{ℕ, _+_, _*_, _-_}
+use mathlib.Core.Path.{_≡_, ap, _∙_}
+use Rattle.limbs.specs.Value.{value, bitsFrom}
+use Rattle.limbs.proofs.WindowLaws.{bitsFrom-shiftRight}
+use Rattle.limbs.proofs.BufferLaws.{puts-as}
+use borrow.Author.Needs.{needs}
+use Rattle.limbs.proofs.write.write_shift_right.Statement.{statement}
+use Rattle.limbs.proofs.write.write_shift_right.Tie as tie
+
+put-windows-requires : tie.Need-put-windows-requires
+put-windows-requires c κs = search needs
+
+same-length : tie.Need-same-length
+same-length c = search needs
+
+returns : tie.Need-returns
+returns c =
+    let a = c .before .before .before .before .before .before in
+    puts-as (λ j h k. let at : a .args .by + 32 * (j - 0) ≡ 32 * j + a .args .by = omega arith in
+    ap (bitsFrom (value (a .args .x .now))) at ∙ bitsFrom-shiftRight (value (a .args .x .now)) (32 * j) (a .args .by))
+    (c .before .before .put-windows .ensures)
+
+pub write-shift-right-spec : {M : Type 1} → statement M
+write-shift-right-spec = tie.close (tie.spec put-windows-requires same-length returns)
