@@ -4,4 +4,5 @@ pub mod MeasureLaws
 pub mod BufferLaws
 pub mod LogicalLaws
 pub mod OutcomeLaws
+pub mod Demand3
 pub mod Cases
