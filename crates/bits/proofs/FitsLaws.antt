@@ -6,7 +6,7 @@ use mathlib.Core.Path.{_≡_, refl, sym, ap, _∙_, subst}
 use mathlib.Core.Bool.{Bool, true, false}
 use lib.Dec.{T, lit<}
 use lib.IntN.{ℤ, pos, negsuc, natAbs, _+ℤ_}
-use lib.Pow.{pow-pos, pow-mono}
+use lib.Pow.{pow-pos, pow-mono, pow-lt}
 use lib.Signed.{mag, natAbs-le}
 use borrow.Author.Tests.{lt-ltb, ltb-true}
 use Rattle.bits.specs.Testbit.{isNegative, testbit, bitLength, fits, fill}
@@ -29,7 +29,7 @@ pub is-true : {t : Bool} → T t → t ≡ true
 is-true {t = true} h = refl
 is-true {t = false} h = absurd h
 
-holds : {t : Bool} → t ≡ true → T t
+pub holds : {t : Bool} → t ≡ true → T t
 holds e = subst T (sym e) tt
 
 pub lt-two-pow : (k : ℕ) → k < 2 ^ k
@@ -99,6 +99,10 @@ module _ (w : ℕ) where
 
   pub small-fits : (n : ℕ) → n < w → fits w (pos n) ≡ true
   small-fits n h = small-magnitude (pos n) (omega arith)
+
+  -- a power of two
+  pub pow-fits : (k : ℕ) → k < w - 1 → fits w (pos (2 ^ k)) ≡ true
+  pow-fits k h = magnitude-fits (pos (2 ^ k)) (pow-lt h)
 
   module _ (x : ℤ) (f : fits w x ≡ true) where
     short : bitLength x ≤ w - 1

@@ -5,13 +5,14 @@ use mathlib.Core.Path.{_≡_, refl, sym, _∙_, ap, ap₂}
 use mathlib.Core.Logic.{_≢_}
 use mathlib.Core.Bool.{Bool, true, false, cond, _&&_, xor, true≢false}
 use mathlib.Core.List.{List, [], _∷_, map}
-use Prim.Native.Nat.{ℕ, zero, suc, _+_, _-_, _^_, _<_}
+use Prim.Native.Nat.{ℕ, zero, suc, _+_, _-_, _^_, _≤_, _<_}
+use native.Mathlib.Nat.{le-trans}
 use native.Mathlib.Omega.{arith}
 use lib.Dec.{eqb, lt→ltb}
 use lib.IntN.{ℤ, pos, negℤ, natAbs, _+ℤ_, _-ℤ_, +ℤ-invr, +ℤ-invl}
 use lib.Signed.{_≤ℤ_, _<ℤ_, leZ-yes, ltZ-yes}
 use borrow.Author.Tests.{eq-eqb, ne-eqb}
-use Rattle.bits.specs.Testbit.{isNegative, testbit}
+use Rattle.bits.specs.Testbit.{isNegative, testbit, fits}
 use Rattle.bits.specs.Logical.{bitwiseNot, bitwise, bitwiseAll}
 use Rattle.bits.specs.Division.{modℕ, «mod»}
 use Rattle.bits.specs.Field.{inField, permuteField, rotateIndex, reverseIndex, rotateBitField, reverseBitField}
@@ -34,7 +35,8 @@ use Rattle.bits.proofs.ArgumentLaws.{all-map}
 use Rattle.bits.proofs.ShiftLaws.{testbit-pow}
 use Rattle.bits.proofs.ModLaws.{modℕ-self, modℕ-inj}
 use Rattle.bits.proofs.DivisionLaws.{mod-bounds}
-use Rattle.bits.proofs.FieldLaws.{testbit-permuteField-out, testbit-rotateBitField-in, isNegative-permuteField}
+use Rattle.bits.proofs.FieldLaws.{inField-ge, testbit-permuteField-out, testbit-rotateBitField-in, isNegative-permuteField}
+use Rattle.bits.proofs.FitsLaws.{same-above-fits}
 use Rattle.bits.proofs.FieldAlgebra.{permuteField-distrib-bitwise}
 use Rattle.bits.proofs.RotateLaws.{
   rotateIndex-lt,
@@ -286,3 +288,11 @@ list-theorem done start end h = record {
     distrib : (calls : List FieldCall) (op : Bool → Bool → Bool) (x y : ℤ)
         → runCalls done start end calls (bitwise op x y) ≡ bitwise op (runCalls done start end calls x) (runCalls done start end calls y)
     distrib calls op = over done start end op (call-bitwise start end op) calls
+
+-- a list on a field that ends at or below w - 1 keeps what fits w
+pub calls-fit : (done : FieldCall → Bool) (start end : ℕ) → start < end → (w : ℕ) → end ≤ w - 1 → (calls : List FieldCall) (x : ℤ) → fits w x ≡ true
+    → fits w (runCalls done start end calls x) ≡ true
+calls-fit done start end h w k calls x =
+    let law = list-theorem done start end h in
+    same-above-fits w (omega arith) x (runCalls done start end calls x) (λ i l. law .outside calls x i (inField-ge start end i (le-trans k l)))
+    (law .sign calls x)

@@ -1,6 +1,6 @@
 -- Demand 3 for fixnums: every list of codes 40 and 41 on a field, at every accepted width. Assumes nothing.
 use Prim.Native.Nat.{ℕ, zero-le, _-_, _≤_, _<_, _^_}
-use native.Mathlib.Nat.{le-trans, le-of-lt, lt-of-lt-of-le}
+use native.Mathlib.Nat.{le-of-lt, lt-of-lt-of-le}
 use native.Mathlib.Omega.{arith}
 use mathlib.Core.Path.{_≡_, refl, sym, ap, _∙_, subst}
 use mathlib.Core.Bool.{Bool, true, false, cond, _&&_, _||_, xor}
@@ -8,7 +8,6 @@ use mathlib.Core.List.{List, [], _∷_, map}
 use lib.Dec.{eqb}
 use lib.IntN.{ℤ, pos}
 use lib.ListN.{length, length-map}
-use lib.Pow.{pow-lt}
 use lib.Signed.{leZ, ltZ}
 use borrow.Author.Tests.{lt-ltb, le-leb}
 use Rattle.bits.specs.Testbit.{isNegative, testbit, fits, fill}
@@ -17,9 +16,8 @@ use Rattle.bits.specs.Count.{bitCount}
 use Rattle.bits.specs.Field.{rotateBitField, reverseBitField}
 use Rattle.bits.specs.FieldList.{FieldCall, rotate, reverse, runCall, runCalls, netCount, oddReversals}
 use Rattle.bits.proofs.LengthLaws.{fits-not}
-use Rattle.bits.proofs.FieldLaws.{inField-ge}
-use Rattle.bits.proofs.FitsLaws.{is-true, fill-fits, bitwise-fits, same-above-fits}
-use Rattle.bits.proofs.ListTheorem.{ListLaw, list-theorem}
+use Rattle.bits.proofs.FitsLaws.{is-true, pow-fits, fill-fits, bitwise-fits}
+use Rattle.bits.proofs.ListTheorem.{ListLaw, list-theorem, calls-fit}
 use Rattle.fixnum.specs.declared.Answer.{Answer}
 use Rattle.fixnum.specs.Answers.{done, refuse}
 use Rattle.fixnum.specs.Domains.{isWidth}
@@ -28,7 +26,6 @@ use Rattle.fixnum.specs.Table.{row, rows, isCode, rowOf}
 use Rattle.fixnum.specs.Calls.{allFixnums}
 use Rattle.fixnum.specs.Lists.{ask, answerTo, handOn, runAll, isDone, turned, ListStatement}
 use Rattle.bits.proofs.Booleans.{both-left, both-right, and-second}
-use Rattle.fixnum.proofs.CallLaws.{width-bounds}
 use Rattle.fixnum.proofs.TableLaws.{from-to}
 use Rattle.fixnum.proofs.AnswerLaws.{reverse-answer, rotate-answer, rotate-no-fixnum, rotate-out-of-domain, one-answer, every-answer}
 
@@ -50,14 +47,6 @@ module _ (w : ℕ) (p : 0 < w) where
 module _ (w : ℕ) (a : isWidth w ≡ true) (start end : ℕ) (h : start < end) (k : end ≤ w - 1) where
   law : (done : FieldCall → Bool) → ListLaw done start end
   law done = list-theorem done start end h
-
-  positive : 0 < w
-  positive = let b = width-bounds w a in omega arith
-
-  calls-fit : (done : FieldCall → Bool) (calls : List FieldCall) (x : ℤ) → fits w x ≡ true → fits w (runCalls done start end calls x) ≡ true
-  calls-fit done calls x f =
-      same-above-fits w positive x (runCalls done start end calls x) (λ i l. law done .outside calls x i (inField-ge start end i (le-trans k l)))
-      (law done .sign calls x) f
 
   -- one call: its answer by the rule, and what it hands on
   record Step (call : FieldCall) (x : ℤ) : Type 0 where
@@ -95,7 +84,7 @@ module _ (w : ℕ) (a : isWidth w ≡ true) (start end : ℕ) (h : start < end) 
   agree [] x f = refl
   agree (call ∷ calls) x f =
       ap (runAll w start end calls) (step call x f .handed)
-      ∙ agree calls (cond (isDone (end - start) call) (runCall start end call x) x) (calls-fit (isDone (end - start)) (call ∷ []) x f)
+      ∙ agree calls (cond (isDone (end - start) call) (runCall start end call x) x) (calls-fit (isDone (end - start)) start end h w k (call ∷ []) x f)
 
   -- ---- the parts of the statement
 
@@ -103,7 +92,7 @@ module _ (w : ℕ) (a : isWidth w ≡ true) (start end : ℕ) (h : start < end) 
   rule = isDone (end - start)
 
   run-fits : (calls : List FieldCall) (x : ℤ) → fits w x ≡ true → fits w (runAll w start end calls x) ≡ true
-  run-fits calls x f = subst (λ (z : ℤ). fits w z ≡ true) (sym (agree calls x f)) (calls-fit rule calls x f)
+  run-fits calls x f = subst (λ (z : ℤ). fits w z ≡ true) (sym (agree calls x f)) (calls-fit rule start end h w k calls x f)
 
   -- the number that the one rotation gets, as bits has it
   turned-is : (calls : List FieldCall) (x : ℤ) → fits w x ≡ true → turned w start end calls x ≡ cond (oddReversals rule calls) (reverseBitField x start end) x
@@ -116,7 +105,7 @@ module _ (w : ℕ) (a : isWidth w ≡ true) (start end : ℕ) (h : start < end) 
   turned-fits calls x f = rw (turned-is calls x f) (go (oddReversals rule calls))
     where
       go : (t : Bool) → fits w (cond t (reverseBitField x start end) x) ≡ true
-      go true = calls-fit (λ _. true) (reverse ∷ []) x f
+      go true = calls-fit (λ _. true) start end h w k (reverse ∷ []) x f
       go false = f
 
   net-done : (calls : List FieldCall) → isDone (end - start) (rotate (netCount rule (end - start) calls)) ≡ true
@@ -182,7 +171,7 @@ module _ (w : ℕ) (a : isWidth w ≡ true) (start end : ℕ) (h : start < end) 
       ∙ ap (λ (z : ℤ). done z (pos 0))
       (ap (bitwiseAll op e) (map-agree calls xs f)
       ∙ sym (law rule .distributes-all calls op e xs)
-      ∙ sym (agree calls (bitwiseAll op e xs) (all-fits w positive op e xs f))
+      ∙ sym (agree calls (bitwiseAll op e xs) (all-fits w (omega arith) op e xs f))
       ∙ ap (λ (r : Answer). runAll w start end calls (r .first)) (sym (every-answer w a code (bitwiseAll op e) c r xs l f)))
 
   distributed : (calls : List FieldCall) (code : ℕ) → 26 ≤ code → code ≤ 28 → (xs : List ℤ) → length xs ≤ 4 → allFixnums w xs ≡ true
@@ -195,8 +184,7 @@ module _ (w : ℕ) (a : isWidth w ≡ true) (start end : ℕ) (h : start < end) 
       code m (omega arith)
 
   witness-fits : fits w (pos (2 ^ start)) ≡ true
-  unfolding fits
-  witness-fits = lt-ltb (2 ^ start) (2 ^ (w - 1)) (pow-lt (lt-of-lt-of-le h k))
+  witness-fits = pow-fits w start (lt-of-lt-of-le h k)
 
   rotated : (c : ℕ) → c < end - start
       → ask w 40 (pos (2 ^ start) ∷ pos start ∷ pos end ∷ pos c ∷ []) ≡ done (rotateBitField (pos (2 ^ start)) start end (pos c)) (pos 0)

@@ -1,6 +1,6 @@
--- Document 01's cases for limb calls, computed from the definitions, with a buffer of two limbs. Assumes nothing.
+-- Document 01's cases for limb calls, computed from the definitions, with a buffer of two limbs; and a list of calls. Assumes nothing.
 use mathlib.Core.Path.{_≡_, refl}
-use mathlib.Core.Bool.{_&&_}
+use mathlib.Core.Bool.{true, _&&_}
 use mathlib.Core.List.{List, [], _∷_}
 use Prim.Native.Nat.{ℕ}
 use lib.IntN.{pos, negsuc}
@@ -8,13 +8,15 @@ use lib.ListN.{length}
 use Rattle.bits.specs.Testbit.{odd, testbit, halvings, bitLength, consBit, ofBits, isNegative, fill}
 use Rattle.bits.specs.Logical.{bitwiseNot, bitwise}
 use Rattle.bits.specs.Shift.{floorDiv, shiftLeft, shiftRight, arithmeticShift}
-use Rattle.bits.specs.Division.{modℕ}
+use Rattle.bits.specs.Division.{modℕ, «mod»}
 use Rattle.bits.specs.Field.{inField, setField, permuteField, rotateIndex, reverseIndex, rotateBitField, reverseBitField}
+use Rattle.bits.specs.FieldList.{rotate, reverse, countCall, netCountFrom, netCount}
 use Rattle.bits.specs.Count.{onesBelow, ones, bitCount, firstTrue, firstBitSet}
 use Rattle.limbs.specs.Value.{onTop, value, limbsOf, limbCount, shortest}
 use Rattle.limbs.specs.Buffer.{Outcome, refused, integer, unless, room, laid, fitsIn, refusal, written, afterwards}
 use Rattle.bits.specs.Range.{within}
 use Rattle.limbs.specs.Operations.{mostLimbs, isOperand, operand, field, sized, notOutcome, bitwiseOutcome, shiftOutcome, rotateOutcome, reverseOutcome, bitCountOutcome, lengthOutcome, firstBitSetOutcome}
+use Rattle.limbs.specs.Lists.{Step, callsOf, outcomeOf, answerOf, handOn, hasRoom, runSteps, isDone}
 
 -- a buffer of two limbs after a call that writes from its start
 abbrev twoLimbs : Outcome → List ℕ
@@ -62,3 +64,22 @@ unfolding odd testbit halvings bitLength consBit ofBits isNegative fill bitwiseN
     permuteField rotateIndex rotateBitField onTop value limbsOf limbCount shortest
     unless room laid fitsIn refusal written afterwards mostLimbs isOperand operand within field notOutcome rotateOutcome
 cases-refusals = (refl, refl, refl, refl, refl, refl, refl, refl, refl, refl)
+
+-- Rotate by 5, rotate by -1, which is refused and asks for no room, and reverse, in three buffers.
+abbrev threeSteps : List Step
+threeSteps =
+    record { call = rotate (pos 5); out = 7 ∷ 7 ∷ 7 ∷ []; first = 1 }
+    ∷ record { call = rotate (negsuc 0); out = []; first = 0 }
+    ∷ record { call = reverse; out = 7 ∷ 7 ∷ []; first = 0 }
+    ∷ []
+
+-- the limbs at the end on the field from 3 to 40, from two limbs; the second list ends at one
+pub cases-list :
+    (hasRoom 3 40 threeSteps (0x89ABCDEF ∷ 0xFEDCBA98 ∷ []) ≡ true)
+    × (runSteps 3 40 threeSteps (0x89ABCDEF ∷ 0xFEDCBA98 ∷ []) ≡ 0xECF56447 ∷ 0xFEDCBACD ∷ [])
+    × (netCount isDone 37 (callsOf threeSteps) ≡ pos 32)
+    × (runSteps 3 40 threeSteps (0x80000007 ∷ 0 ∷ []) ≡ 0x47 ∷ [])
+unfolding odd testbit halvings bitLength consBit ofBits isNegative fill floorDiv shiftRight modℕ «mod» inField setField permuteField rotateIndex
+    reverseIndex rotateBitField reverseBitField onTop value limbsOf limbCount shortest unless room laid fitsIn refusal written afterwards mostLimbs
+    isOperand operand within field rotateOutcome reverseOutcome callsOf outcomeOf answerOf handOn hasRoom runSteps isDone countCall netCountFrom netCount
+cases-list = (refl, refl, refl, refl)

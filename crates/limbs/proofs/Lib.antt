@@ -9,4 +9,5 @@ pub mod LogicalLaws
 pub mod SpliceLaws
 pub mod FieldLimbs
 pub mod OutcomeLaws
+pub mod Demand3
 pub mod Cases
