@@ -8,6 +8,7 @@ pub mod BufferLaws
 pub mod LogicalLaws
 pub mod SpliceLaws
 pub mod FieldLimbs
+pub mod SegmentLaws
 pub mod OutcomeLaws
 pub mod Demand3
 pub mod Cases

@@ -9,9 +9,10 @@
 --   Puts f a b from to         ==  b is a, but for the limbs from one index up to, but not at, another: limb j of them is f j
 --   checked k o                ==  o where the refusal number k is 0, else that refusal
 --   Decides stages k           ==  k is what the stages of a call come to: their first refusal, or 0
+--   Past at from to r          ==  r is the first limb, from one index up to another, that does not lie whole below the position `at`
 --   number o                   ==  the answer of a call that writes nothing
 -- The shortest limbs are written, or refusal 8 is given where they do not fit.
-use Prim.Native.Nat.{ℕ, _+_, _-_, _≤_, _<_}
+use Prim.Native.Nat.{ℕ, _+_, _*_, _-_, _≤_, _<_}
 use mathlib.Core.Path.{_≡_}
 use mathlib.Core.Bool.{Bool, cond}
 use mathlib.Core.List.{List, _++_}
@@ -65,6 +66,12 @@ pub record Puts (f : ℕ → ℕ) (a b : List ℕ) (from to : ℕ) : Type 0 wher
   pub inside : (j : ℕ) → from ≤ j → j < to → getD b j 0 ≡ f j
   pub below : (j : ℕ) → j < from → getD b j 0 ≡ getD a j 0
   pub above : (j : ℕ) → to ≤ j → getD b j 0 ≡ getD a j 0
+
+pub record Past (at from to r : ℕ) : Type 0 where
+  pub low : from ≤ r
+  pub high : r ≤ to
+  pub below : (j : ℕ) → from ≤ j → j < r → 32 * j + 32 ≤ at
+  pub beyond : (j : ℕ) → r ≤ j → j < to → at < 32 * j + 32
 
 unfoldable pub number : Outcome → Number
 number (refused k) = record { refusal = k; value = pos 0 }

@@ -10,9 +10,8 @@ ghost use Rattle.limbs.specs.Value.{value, limbAt};
 ghost use Rattle.limbs.specs.Buffer.{Puts};
 ghost use Rattle.limbs.specs.Results.{meaning, Proper};
 use super::field::reverse_limb;
+use super::index::first_past;
 use super::index::gap;
-use super::index::least;
-use super::index::most;
 use super::logical::write_if;
 use super::logical::write_logical;
 use super::logical::write_not;
@@ -49,8 +48,8 @@ fn write_shift_left(x: &[u32], by: u64, n: usize, part: &mut [u32])
     requires { ⌜ (n ≤ length (now part)) × (n < 2 ^ 32) ⌝ }
     ensures { λ r. ⌜ Puts (limbAt (shiftLeft (value (now (x .entry))) by)) (now (part .entry)) (now (part .exit)) 0 n ⌝ }
 {
-    let low = least((by / 32) as usize, n);
-    let next = least(low + 1, n);
+    let low = first_past(by, 0, n);
+    let next = first_past(by + 31, low, n);
     put_zeros(0, low, part);
     put_limbs(Operation::ShiftLeft { by }, x, x, x, low, next, part);
     put_windows(x, gap(by, 32 * (next as u64)), next, n, part);
@@ -70,7 +69,7 @@ fn write_field(x: &[u32], start: u64, end: u64, n: usize, part: &mut [u32])
     requires { ⌜ (n ≤ length (now part)) × (n < 2 ^ 32) ⌝ }
     ensures { λ r. ⌜ Puts (limbAt (bitField (value (now (x .entry))) start end)) (now (part .entry)) (now (part .exit)) 0 n ⌝ }
 {
-    let whole = least(((end - start) / 32) as usize, n);
+    let whole = first_past(end - start, 0, n);
     put_windows(x, start, 0, whole, part);
     put_limbs(Operation::Field { start, end }, x, x, x, whole, n, part);
 }
@@ -81,10 +80,10 @@ fn write_copy_field(x: &[u32], y: &[u32], start: u64, end: u64, n: usize, part: 
     requires { ⌜ (n ≤ length (now part)) × (n < 2 ^ 32) ⌝ }
     ensures { λ r. ⌜ Puts (limbAt (copyBitField (value (now (x .entry))) start end (value (now (y .entry))))) (now (part .entry)) (now (part .exit)) 0 n ⌝ }
 {
-    let low = least((start / 32) as usize, n);
-    let inside = least(low + 1, n);
-    let top = most(inside, least((end / 32) as usize, n));
-    let above = least(top + 1, n);
+    let low = first_past(start, 0, n);
+    let inside = first_past(start + 31, low, n);
+    let top = first_past(end, inside, n);
+    let above = first_past(end + 31, top, n);
     put_windows(x, 0, 0, low, part);
     put_limbs(
         Operation::CopyField { start, end },
@@ -116,12 +115,12 @@ fn write_rotate(x: &[u32], start: u64, end: u64, by: u64, n: usize, part: &mut [
     requires { ⌜ (n ≤ length (now part)) × (n < 2 ^ 32) ⌝ }
     ensures { λ r. ⌜ Puts (limbAt (rotateBitField (value (now (x .entry))) start end (pos by))) (now (part .entry)) (now (part .exit)) 0 n ⌝ }
 {
-    let low = least((start / 32) as usize, n);
-    let inside = least(low + 1, n);
-    let middle = most(inside, least(((start + by) / 32) as usize, n));
-    let others = least(middle + 1, n);
-    let top = most(others, least((end / 32) as usize, n));
-    let above = least(top + 1, n);
+    let low = first_past(start, 0, n);
+    let inside = first_past(start + 31, low, n);
+    let middle = first_past(start + by, inside, n);
+    let others = first_past(start + by + 31, middle, n);
+    let top = first_past(end, others, n);
+    let above = first_past(end + 31, top, n);
     put_windows(x, 0, 0, low, part);
     put_limbs(
         Operation::Rotate { start, end, by },

@@ -1,5 +1,5 @@
 -- `limbs::measure::measure` meets its contract. The invariant: n limbs are enough. Assumes nothing.
-use Prim.Native.Nat.{ℕ, _*_, _-_, _<_}
+use Prim.Native.Nat.{ℕ, _*_, _-_, _^_, _<_}
 use native.Mathlib.Omega.{arith}
 use mathlib.Core.Path.{_≡_, sym, subst, _∙_}
 use lib.Dec.{eqb}
@@ -13,25 +13,29 @@ use Rattle.limbs.proofs.measure.measure.Statement.{statement}
 use Rattle.limbs.proofs.measure.measure.Tie as tie
 
 abbrev Inv-loop : tie.InvT-loop
-Inv-loop operation x y z enough n₀ n = (0 < n) × (bitLength (meaning operation (value x) (value y) (value z)) < 32 * n)
+Inv-loop operation x y z enough n₀ n = ((0 < n) × (n < 2 ^ 32)) × (bitLength (meaning operation (value x) (value y) (value z)) < 32 * n)
 
 abbrev μ-loop : tie.MeasureT-loop
 μ-loop operation x y z enough n₀ n = n
 
 loop-holds : tie.Need-loop-holds Inv-loop μ-loop
-loop-holds c = (c .before .before .before .pre .1 .1 .1 .0, c .before .before .before .pre .1 .1 .1 .1)
+loop-holds c = let p = c .before .before .before .pre .1 .1 .1 in (p .0 .1, p .1)
 
 sub-limb-of : tie.Need-sub-limb-of Inv-loop μ-loop
 sub-limb-of c = omega arith
 
 limb-of-requires : tie.Need-limb-of-requires Inv-loop μ-loop
-limb-of-requires c κs = omega arith
+limb-of-requires c κs =
+    let p = c .before .before .before .before .before .pre in
+    (p .0, (p .1 .0, (p .1 .1 .0, (p .1 .1 .1 .0 .0, omega arith))))
 
 sub-limb-of-2 : tie.Need-sub-limb-of-2 Inv-loop μ-loop
 sub-limb-of-2 c = omega arith
 
 limb-of-requires-2 : tie.Need-limb-of-requires-2 Inv-loop μ-loop
-limb-of-requires-2 c κs = omega arith
+limb-of-requires-2 c κs =
+    let p = c .before .before .before .before .before .before .pre in
+    (p .0, (p .1 .0, (p .1 .1 .0, (p .1 .1 .1 .0 .0, omega arith))))
 
 is-padding-requires : tie.Need-is-padding-requires Inv-loop μ-loop
 is-padding-requires c κs = search needs
@@ -56,7 +60,7 @@ loop-less c = omega arith
 loop-again : tie.Need-loop-again Inv-loop μ-loop
 loop-again c =
     let l = c .before .before .before .before .before .loop in
-    (omega arith, shorter-by-one _ (l .n) (c .before .before .before .before .loop-test .taken) (l .inv .1) (eqb-true _ _ (sym (tested (c .before)) ∙ not-false _ (c .if1 .left))))
+    ((omega arith, omega arith), shorter-by-one _ (l .n) (c .before .before .before .before .loop-test .taken) (l .inv .1) (eqb-true _ _ (sym (tested (c .before)) ∙ not-false _ (c .if1 .left))))
 
 returns-2 : tie.Need-returns-2 Inv-loop μ-loop
 returns-2 c =

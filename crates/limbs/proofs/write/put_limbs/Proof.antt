@@ -17,7 +17,9 @@ loop-holds : tie.Need-loop-holds Inv-loop μ-loop
 loop-holds c = turn-none _ _ _ _ (omega arith)
 
 limb-of-requires : tie.Need-limb-of-requires Inv-loop μ-loop
-limb-of-requires c κs = ?
+limb-of-requires c κs =
+    let p = c .before .before .before .before .before .before .pre in
+    (p .0 .0, (p .0 .1 .0, (p .0 .1 .1, (p .1 .0, omega arith))))
 
 mul-part : tie.Need-mul-part Inv-loop μ-loop
 mul-part c = omega arith

@@ -17,7 +17,7 @@ loop-holds : tie.Need-loop-holds Inv-loop μ-loop
 loop-holds c = turn-none _ _ _ _ (omega arith)
 
 reverse-limb-requires : tie.Need-reverse-limb-requires Inv-loop μ-loop
-reverse-limb-requires c κs = ?
+reverse-limb-requires c κs = omega arith
 
 mul-part : tie.Need-mul-part Inv-loop μ-loop
 mul-part c = omega arith

@@ -19,7 +19,7 @@ returns : tie.Need-returns
 returns c =
     let a = c .before .before .before .before .before .before in
     puts-as (λ j h k. let at : a .args .by + 32 * (j - 0) ≡ 32 * j + a .args .by = omega arith in
-    ap (bitsFrom (value (a .args .x .now))) at ∙ bitsFrom-shiftRight (value (a .args .x .now)) (32 * j) (a .args .by))
+    ap (bitsFrom (value (a .args .x .now))) at ∙ bitsFrom-shiftRight (value (a .args .x .now)) (a .args .by) (32 * j))
     (c .before .before .put-windows .ensures)
 
 pub write-shift-right-spec : {M : Type 1} → statement M
