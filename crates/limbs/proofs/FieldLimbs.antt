@@ -11,10 +11,10 @@ use Rattle.bits.specs.Shift.{shiftLeft}
 use Rattle.bits.specs.Field.{inField, bitField, setField, copyBitField, permuteField, rotateIndex, reverseIndex, rotateBitField, reverseBitField}
 use Rattle.bits.proofs.TestbitLaws.{by-lt, testbit-zero}
 use Rattle.bits.proofs.ShiftLaws.{testbit-shiftLeft-ge}
-use Rattle.bits.proofs.FieldLaws.{inField-true, inField-lt, inField-ge, by-field, testbit-setField, testbit-setField-out, testbit-bitField}
+use Rattle.bits.proofs.FieldLaws.{inField-true, inField-lt, inField-ge, by-field, testbit-setField, testbit-bitField}
 use Rattle.bits.proofs.RotateWords.{rotate-low, rotate-high}
 use Rattle.limbs.specs.Value.{bitsFrom, limbAt}
-use Rattle.limbs.proofs.LimbLaws.{bitsFrom-lt, testbit-bitsFrom, word-ext}
+use Rattle.limbs.proofs.LimbLaws.{testbit-bitsFrom, word-ext}
 
 -- ---- one bit
 
@@ -75,22 +75,6 @@ setField-limb {x} {start} {end} {j} {inside} {r} g laid k =
     (k t l)
     (λ o. window-bit x (32 * j) t (laid .outside) (32 * j + t) (laid .same) l refl)
     ∙ sym (testbit-setField x start end g (32 * j + t)))
-
--- a limb that lies whole inside the field is the word itself
-pub laid-inside : (x : ℤ) (start end j w : ℕ) → w < 2 ^ 32 → start ≤ 32 * j → 32 * j + 32 ≤ end → Laid x start end j w w
-laid-inside x start end j w f h k = record {
-  fits = f;
-  outside = limbAt x j;
-  same = refl;
-  bits = λ t l. ap (λ (b : Bool). cond b (testbit (pos w) t) (testbit (pos (limbAt x j)) t)) (sym (inField-true start end (32 * j + t) (omega arith) (omega arith)));
-}
-
--- and one that lies whole outside it is that of x
-pub outside-limb : (x : ℤ) (start end : ℕ) (g : ℕ → Bool) (j : ℕ) → ((t : ℕ) → t < 32 → inField start end (32 * j + t) ≡ false)
-    → limbAt x j ≡ limbAt (setField x start end g) j
-outside-limb x start end g j o =
-    word-ext (limbAt x j) (setField x start end g) (32 * j) (bitsFrom-lt x (32 * j)) (λ t l.
-    testbit-bitsFrom x (32 * j) t l ∙ sym (testbit-setField-out x start end g (32 * j + t) (o t l)))
 
 -- by the low bits of y
 pub copyBitField-limb : {x : ℤ} {start end j inside r : ℕ} (y : ℤ) → Laid x start end j inside r

@@ -1,102 +1,100 @@
--- The limbs of a result that are copied whole: which windows of the operands they are. Assumes nothing.
-use Prim.Native.Nat.{ℕ, _+_, _*_, _-_, _^_, _≤_, _<_}
+-- Bits of a result that are bits of an operand: which they are, for each operation, and the limbs that lie whole among them. Assumes nothing.
+use Prim.Native.Nat.{ℕ, zero-le, _+_, _*_, _-_, _≤_, _<_}
 use native.Mathlib.Omega.{arith}
-use mathlib.Core.Path.{_≡_, refl, sym, ap, _∙_}
+use mathlib.Core.Path.{_≡_, sym, ap, _∙_}
 use mathlib.Core.Bool.{Bool, cond, _&&_}
-use lib.Dec.{ltb}
 use lib.IntN.{ℤ, pos}
-use borrow.Author.Tests.{lt-ltb, le-ltb}
+use borrow.Author.Tests.{lt-ltb}
 use Rattle.bits.specs.Testbit.{testbit}
 use Rattle.bits.specs.Shift.{shiftLeft}
-use Rattle.bits.specs.Field.{inField, bitField, setField, copyBitField, permuteField, rotateIndex, rotateBitField}
-use Rattle.bits.proofs.FieldLaws.{inField-lt, inField-ge, testbit-bitField}
+use Rattle.bits.specs.Field.{bitField, setField, copyBitField, permuteField, rotateIndex, rotateBitField}
+use Rattle.bits.proofs.ShiftLaws.{testbit-shiftLeft-ge}
+use Rattle.bits.proofs.FieldLaws.{inField-lt, inField-ge, testbit-bitField, testbit-setField-in, testbit-setField-out}
+use Rattle.bits.proofs.RotateWords.{rotate-low, rotate-high}
 use Rattle.limbs.specs.Value.{bitsFrom, limbAt}
-use Rattle.limbs.specs.Buffer.{Past}
+use Rattle.limbs.specs.Buffer.{Moved, Past}
 use Rattle.limbs.proofs.LimbLaws.{bitsFrom-lt, testbit-bitsFrom, word-ext}
-use Rattle.limbs.proofs.WindowLaws.{bitsFrom-shiftLeft-ge, bitsFrom-shiftLeft-zero}
-use Rattle.limbs.proofs.FieldLimbs.{laid-inside, outside-limb, copyBitField-limb, rotateBitField-limb}
+use Rattle.limbs.proofs.WindowLaws.{bitsFrom-shiftLeft-zero}
 
--- ---- the window of limb j, where the first window of the segment is at `at`
+-- ---- limbs that lie whole in a piece
 
-window-at : (z : ℤ) {at m : ℕ} → at ≡ m → bitsFrom z at ≡ bitsFrom z m
-window-at z e = ap (bitsFrom z) e
+-- limb j, where the windows of a segment begin with that of limb r
+pub moved-limb : {z y : ℤ} {from to up down first last r s : ℕ} → Moved z y from to up down → Past (from + 31) first last r → Past to r last s
+    → (j : ℕ) → r ≤ j → j < s → bitsFrom y (32 * r + up - down + 32 * (j - r)) ≡ limbAt z j
+moved-limb {z} {y} {from} {to} {up} {down} {first} {last} {r} m p q j h k =
+    let u : j < last = omega (arith, q .high) in
+    let a = p .beyond j h u in
+    let b = p .beyond r (omega arith) (omega arith) in
+    let c = q .below j h k in
+    let d = m .reach in
+    word-ext (bitsFrom y (32 * r + up - down + 32 * (j - r))) z (32 * j) (bitsFrom-lt y (32 * r + up - down + 32 * (j - r))) (λ t l.
+    let at : 32 * r + up - down + 32 * (j - r) + t ≡ 32 * j + t + up - down = omega arith in
+    testbit-bitsFrom y (32 * r + up - down + 32 * (j - r)) t l ∙ ap (testbit y) at ∙ sym (m .bits (32 * j + t) (omega arith) (omega arith)))
 
--- ---- shifts to the left
-
+-- limbs below a shift are zeros
 pub zero-limb : (z : ℤ) {by to r : ℕ} → Past by 0 to r → (j : ℕ) → 0 ≤ j → j < r → 0 ≡ limbAt (shiftLeft z by) j
 zero-limb z {by} p j h k = bitsFrom-shiftLeft-zero z by (32 * j) (p .below j h k)
 
--- moved up by `by` bits, from limb r on
-moved : (z : ℤ) (by : ℕ) {from to r : ℕ} → Past (by + 31) from to r → (j : ℕ) → r ≤ j → j < to → bitsFrom z (32 * r - by + 32 * (j - r)) ≡ bitsFrom z (32 * j - by)
-moved z by {r} p j h k = let l = p .beyond r (omega arith) (omega arith) in window-at z (omega arith)
+-- ---- the pieces of each operation
 
-pub shifted-limb : (z : ℤ) (by : ℕ) {from to r : ℕ} → Past (by + 31) from to r → (j : ℕ) → r ≤ j → j < to
-    → bitsFrom z (32 * r - by + 32 * (j - r)) ≡ limbAt (shiftLeft z by) j
-shifted-limb z by p j h k =
-    let l = p .beyond j h k in
-    moved z by p j h k ∙ bitsFrom-shiftLeft-ge z by (32 * j) (omega arith)
+same-place : (x : ℤ) (i : ℕ) → testbit x i ≡ testbit x (i + 0 - 0)
+same-place x i = let e : i ≡ i + 0 - 0 = omega arith in ap (testbit x) e
 
--- ---- a field as a number
+pub moved-left : (x : ℤ) (by to : ℕ) → Moved (shiftLeft x by) x by to 0 by
+moved-left x by to = record {
+  reach = omega arith;
+  bits = λ i h k. let e : i - by ≡ i + 0 - by = omega arith in testbit-shiftLeft-ge x by i h ∙ ap (testbit x) e;
+}
 
-pub field-limb : (x : ℤ) (start end : ℕ) {to r : ℕ} → Past (end - start) 0 to r → (j : ℕ) → 0 ≤ j → j < r
-    → bitsFrom x (start + 32 * (j - 0)) ≡ limbAt (bitField x start end) j
-field-limb x start end p j h k =
-    let l = p .below j h k in
-    word-ext (bitsFrom x (start + 32 * (j - 0))) (bitField x start end) (32 * j) (bitsFrom-lt x (start + 32 * (j - 0))) (λ t m.
-    let at : start + 32 * (j - 0) + t ≡ start + (32 * j + t) = omega arith in
-    testbit-bitsFrom x (start + 32 * (j - 0)) t m
-    ∙ ap (testbit x) at
-    ∙ sym (testbit-bitField x start end (32 * j + t) ∙ ap (λ (b : Bool). b && testbit x (start + (32 * j + t))) (lt-ltb (32 * j + t) (end - start) (omega arith))))
+pub moved-field : (x : ℤ) (start end : ℕ) → Moved (bitField x start end) x 0 (end - start) start 0
+moved-field x start end = record {
+  reach = zero-le;
+  bits = λ i h k.
+      let e : start + i ≡ i + start - 0 = omega arith in
+      testbit-bitField x start end i ∙ ap (λ (b : Bool). b && testbit x (start + i)) (lt-ltb i (end - start) k) ∙ ap (testbit x) e;
+}
 
--- ---- x outside a field
+module _ (x : ℤ) (start end : ℕ) (g : ℕ → Bool) where
+  pub moved-below : Moved (setField x start end g) x 0 start 0 0
+  moved-below = record { reach = zero-le; bits = λ i h k. testbit-setField-out x start end g i (inField-lt start end i k) ∙ same-place x i }
 
-pub below-limb : (x : ℤ) (start end : ℕ) (g : ℕ → Bool) {to r : ℕ} → Past start 0 to r → (j : ℕ) → 0 ≤ j → j < r
-    → bitsFrom x (0 + 32 * (j - 0)) ≡ limbAt (setField x start end g) j
-below-limb x start end g p j h k =
-    let l = p .below j h k in
-    window-at x (omega arith) ∙ outside-limb x start end g j (λ t m. inField-lt start end (32 * j + t) (omega arith))
+  pub moved-above : (to : ℕ) → Moved (setField x start end g) x end to 0 0
+  moved-above to = record { reach = zero-le; bits = λ i h k. testbit-setField-out x start end g i (inField-ge start end i h) ∙ same-place x i }
 
-pub above-limb : (x : ℤ) (start end : ℕ) (g : ℕ → Bool) {from to r : ℕ} → Past (end + 31) from to r → (j : ℕ) → r ≤ j → j < to
-    → bitsFrom x (32 * r + 32 * (j - r)) ≡ limbAt (setField x start end g) j
-above-limb x start end g p j h k =
-    let l = p .beyond j h k in
-    window-at x (omega arith) ∙ outside-limb x start end g j (λ t m. inField-ge start end (32 * j + t) (omega arith))
+  inside : (i : ℕ) → start ≤ i → i < end → testbit (setField x start end g) i ≡ g (i - start)
+  inside i h k =
+      let e : i ≡ start + (i - start) = omega arith in
+      ap (testbit (setField x start end g)) e ∙ testbit-setField-in x start end g (i - start) (omega arith)
 
--- ---- what stands inside it: y, or the upper part of the field, or its other part
+pub moved-copy : (x y : ℤ) (start end : ℕ) → Moved (copyBitField x start end y) y start end 0 start
+unfolding copyBitField
+moved-copy x y start end = record {
+  reach = omega arith;
+  bits = λ i h k. let e : i - start ≡ i + 0 - start = omega arith in inside x start end (λ j. testbit y j) i h k ∙ ap (testbit y) e;
+}
 
-pub copied-limb : (x y : ℤ) (start end : ℕ) {from to r s : ℕ} → Past (start + 31) from to r → Past end r to s → (j : ℕ) → r ≤ j → j < s
-    → bitsFrom y (32 * r - start + 32 * (j - r)) ≡ limbAt (copyBitField x start end y) j
-copied-limb x y start end {from} {to} p q j h k =
-    let u : j < to = omega (arith, q .high) in
-    let l = p .beyond j h u in
-    let m = q .below j h k in
-    moved y start p j h u
-    ∙ copyBitField-limb y (laid-inside x start end j (bitsFrom y (32 * j - start)) (bitsFrom-lt y (32 * j - start)) (omega arith) m)
-    (bitsFrom-shiftLeft-ge y start (32 * j) (omega arith))
+module _ (x : ℤ) (start end by : ℕ) (h : start ≤ end) (k : by ≤ end - start) where
+  abbrev from-bit : ℕ → Bool
+  from-bit j = testbit x (start + rotateIndex (end - start) (pos by) j)
 
-pub upper-limb : (x : ℤ) (start end by : ℕ) → by ≤ end - start → start ≤ end → {from to r s : ℕ} → Past (start + 31) from to r → Past (start + by) r to s
-    → (j : ℕ) → r ≤ j → j < s
-    → bitsFrom x (32 * r + (end - start - by) + 32 * (j - r)) ≡ limbAt (rotateBitField x start end (pos by)) j
-upper-limb x start end by c d {from} {to} p q j h k =
-    let u : j < to = omega (arith, q .high) in
-    let l = p .beyond j h u in
-    let m = q .below j h k in
-    window-at x (omega arith)
-    ∙ rotateBitField-limb c
-    (laid-inside x start end j (bitsFrom x (32 * j + (end - start - by))) (bitsFrom-lt x (32 * j + (end - start - by))) (omega arith) (omega arith))
-    (λ t v. ap (λ (b : Bool). cond b (testbit (pos (bitsFrom x (32 * j + (end - start - by)))) t) (testbit (pos (limbAt (shiftLeft x by) j)) t)) (sym (lt-ltb (32 * j + t) (start + by) (omega arith))))
-    refl refl
+  pub moved-upper : Moved (rotateBitField x start end (pos by)) x start (start + by) (end - (start + by)) 0
+  unfolding rotateBitField permuteField
+  moved-upper = record {
+    reach = zero-le;
+    bits = λ i l m.
+        let e : start + (end - start - by + (i - start)) ≡ i + (end - (start + by)) - 0 = omega arith in
+        inside x start end from-bit i l (omega arith)
+        ∙ ap (λ (n : ℕ). testbit x (start + n)) (rotate-low (end - start) by (i - start) k (omega arith))
+        ∙ ap (testbit x) e;
+  }
 
-pub other-limb : (x : ℤ) (start end by : ℕ) → by ≤ end - start → start ≤ end → {from to r s : ℕ} → Past (start + by + 31) from to r → Past end r to s
-    → (j : ℕ) → r ≤ j → j < s
-    → bitsFrom x (32 * r - by + 32 * (j - r)) ≡ limbAt (rotateBitField x start end (pos by)) j
-other-limb x start end by c d {from} {to} {r} p q j h k =
-    let u : j < to = omega (arith, q .high) in
-    let l = p .beyond j h u in
-    let n = p .beyond r (omega arith) (omega arith) in
-    let m = q .below j h k in
-    window-at x (omega arith)
-    ∙ rotateBitField-limb c
-    (laid-inside x start end j (bitsFrom x (32 * j - by)) (bitsFrom-lt x (32 * j - by)) (omega arith) m)
-    (λ t v. ap (λ (b : Bool). cond b (testbit (pos (bitsFrom x (32 * j + (end - start - by)))) t) (testbit (pos (bitsFrom x (32 * j - by))) t)) (sym (le-ltb (32 * j + t) (start + by) (omega arith))))
-    refl (bitsFrom-shiftLeft-ge x by (32 * j) (omega arith))
+  pub moved-others : Moved (rotateBitField x start end (pos by)) x (start + by) end 0 by
+  unfolding rotateBitField permuteField
+  moved-others = record {
+    reach = omega arith;
+    bits = λ i l m.
+        let e : start + (i - start - by) ≡ i + 0 - by = omega arith in
+        inside x start end from-bit i (omega arith) m
+        ∙ ap (λ (n : ℕ). testbit x (start + n)) (rotate-high (end - start) by (i - start) (omega arith) (omega arith))
+        ∙ ap (testbit x) e;
+  }

@@ -9,6 +9,7 @@
 --   Puts f a b from to         ==  b is a, but for the limbs from one index up to, but not at, another: limb j of them is f j
 --   checked k o                ==  o where the refusal number k is 0, else that refusal
 --   Decides stages k           ==  k is what the stages of a call come to: their first refusal, or 0
+--   Moved z y from to up down  ==  the bits of z from one position up to another are those of y, `up` places higher and `down` lower
 --   Past at from to r          ==  r is the first limb, from one index up to another, that does not lie whole below the position `at`
 --   number o                   ==  the answer of a call that writes nothing
 -- The shortest limbs are written, or refusal 8 is given where they do not fit.
@@ -18,6 +19,7 @@ use mathlib.Core.Bool.{Bool, cond}
 use mathlib.Core.List.{List, _++_}
 use lib.Dec.{eqb, leb}
 use lib.IntN.{ℤ, pos}
+use Rattle.bits.specs.Testbit.{testbit}
 use lib.ListN.{length, getD, take, drop}
 use Rattle.limbs.specs.declared.Written.{Written}
 use Rattle.limbs.specs.declared.Number.{Number}
@@ -66,6 +68,10 @@ pub record Puts (f : ℕ → ℕ) (a b : List ℕ) (from to : ℕ) : Type 0 wher
   pub inside : (j : ℕ) → from ≤ j → j < to → getD b j 0 ≡ f j
   pub below : (j : ℕ) → j < from → getD b j 0 ≡ getD a j 0
   pub above : (j : ℕ) → to ≤ j → getD b j 0 ≡ getD a j 0
+
+pub record Moved (z y : ℤ) (from to up down : ℕ) : Type 0 where
+  pub reach : down ≤ from + up
+  pub bits : (i : ℕ) → from ≤ i → i < to → testbit z i ≡ testbit y (i + up - down)
 
 pub record Past (at from to r : ℕ) : Type 0 where
   pub low : from ≤ r

@@ -7,7 +7,7 @@ ghost use lib.ListN.{length};
 ghost use Rattle.bits.specs.Shift.{shiftLeft, shiftRight};
 ghost use Rattle.bits.specs.Field.{bitField, copyBitField, rotateBitField, reverseBitField};
 ghost use Rattle.limbs.specs.Value.{value, limbAt};
-ghost use Rattle.limbs.specs.Buffer.{Puts};
+ghost use Rattle.limbs.specs.Buffer.{Puts, Moved};
 ghost use Rattle.limbs.specs.Results.{meaning, Proper};
 use super::field::reverse_limb;
 use super::index::first_past;
@@ -43,16 +43,60 @@ fn put_limbs(
     }
 }
 
+// Bits of the result, from one position up to another, that are bits of an operand: `up` places higher there and `down` lower.
+pub struct Piece {
+    pub from: u64,
+    pub to: u64,
+    pub up: u64,
+    pub down: u64,
+}
+
+// A position past every limb.
+const FAR: u64 = 0x100_0000_0000;
+
+// The limbs from an index on up to the first that does not lie whole below the end of a piece. Those that lie whole in the piece
+// are windows of its source. Answers where it has stopped.
+fn put_piece(
+    operation: Operation,
+    x: &[u32],
+    y: &[u32],
+    source: &[u32],
+    piece: Piece,
+    from: usize,
+    n: usize,
+    part: &mut [u32],
+) -> usize
+    requires { ⌜ (0 < length (now x)) × ((0 < length (now y)) × (0 < length (now source))) ⌝ }
+    requires { ⌜ Proper operation ⌝ }
+    requires { ⌜ Moved (meaning operation (value (now x)) (value (now y)) (value (now x))) (value (now source)) (piece .from) (piece .to) (piece .up) (piece .down) ⌝ }
+    requires { ⌜ (piece .from < 2 ^ 33) × (piece .up < 2 ^ 33) ⌝ }
+    requires { ⌜ (from ≤ n) × ((n ≤ length (now part)) × (n < 2 ^ 32)) ⌝ }
+    ensures { λ r. ⌜ ((from ≤ r) × (r ≤ n)) × Puts (limbAt (meaning operation (value (now (x .entry))) (value (now (y .entry))) (value (now (x .entry))))) (now (part .entry)) (now (part .exit)) from r ⌝ }
+{
+    let inner = first_past(piece.from + 31, from, n);
+    let stop = first_past(piece.to, inner, n);
+    put_limbs(operation, x, y, x, from, inner, part);
+    let at = gap(piece.down, 32 * (inner as u64) + piece.up);
+    put_windows(source, at, inner, stop, part);
+    stop
+}
+
 fn write_shift_left(x: &[u32], by: u64, n: usize, part: &mut [u32])
     requires { ⌜ (0 < length (now x)) × (by < 2 ^ 32) ⌝ }
     requires { ⌜ (n ≤ length (now part)) × (n < 2 ^ 32) ⌝ }
     ensures { λ r. ⌜ Puts (limbAt (shiftLeft (value (now (x .entry))) by)) (now (part .entry)) (now (part .exit)) 0 n ⌝ }
 {
+    let operation = Operation::ShiftLeft { by };
     let low = first_past(by, 0, n);
-    let next = first_past(by + 31, low, n);
     put_zeros(0, low, part);
-    put_limbs(Operation::ShiftLeft { by }, x, x, x, low, next, part);
-    put_windows(x, gap(by, 32 * (next as u64)), next, n, part);
+    let above = Piece {
+        from: by,
+        to: FAR,
+        up: 0,
+        down: by,
+    };
+    let rest = put_piece(operation, x, x, x, above, low, n, part);
+    put_limbs(operation, x, x, x, rest, n, part);
 }
 
 fn write_shift_right(x: &[u32], by: u64, n: usize, part: &mut [u32])
@@ -69,9 +113,15 @@ fn write_field(x: &[u32], start: u64, end: u64, n: usize, part: &mut [u32])
     requires { ⌜ (n ≤ length (now part)) × (n < 2 ^ 32) ⌝ }
     ensures { λ r. ⌜ Puts (limbAt (bitField (value (now (x .entry))) start end)) (now (part .entry)) (now (part .exit)) 0 n ⌝ }
 {
-    let whole = first_past(end - start, 0, n);
-    put_windows(x, start, 0, whole, part);
-    put_limbs(Operation::Field { start, end }, x, x, x, whole, n, part);
+    let operation = Operation::Field { start, end };
+    let whole = Piece {
+        from: 0,
+        to: end - start,
+        up: start,
+        down: 0,
+    };
+    let rest = put_piece(operation, x, x, x, whole, 0, n, part);
+    put_limbs(operation, x, x, x, rest, n, part);
 }
 
 fn write_copy_field(x: &[u32], y: &[u32], start: u64, end: u64, n: usize, part: &mut [u32])
@@ -80,34 +130,32 @@ fn write_copy_field(x: &[u32], y: &[u32], start: u64, end: u64, n: usize, part: 
     requires { ⌜ (n ≤ length (now part)) × (n < 2 ^ 32) ⌝ }
     ensures { λ r. ⌜ Puts (limbAt (copyBitField (value (now (x .entry))) start end (value (now (y .entry))))) (now (part .entry)) (now (part .exit)) 0 n ⌝ }
 {
-    let low = first_past(start, 0, n);
-    let inside = first_past(start + 31, low, n);
-    let top = first_past(end, inside, n);
-    let above = first_past(end + 31, top, n);
-    put_windows(x, 0, 0, low, part);
-    put_limbs(
-        Operation::CopyField { start, end },
-        x,
-        y,
-        x,
-        low,
-        inside,
-        part,
-    );
-    put_windows(y, gap(start, 32 * (inside as u64)), inside, top, part);
-    put_limbs(
-        Operation::CopyField { start, end },
-        x,
-        y,
-        x,
-        top,
-        above,
-        part,
-    );
-    put_windows(x, 32 * (above as u64), above, n, part);
+    let operation = Operation::CopyField { start, end };
+    let below = Piece {
+        from: 0,
+        to: start,
+        up: 0,
+        down: 0,
+    };
+    let inside = Piece {
+        from: start,
+        to: end,
+        up: 0,
+        down: start,
+    };
+    let above = Piece {
+        from: end,
+        to: FAR,
+        up: 0,
+        down: 0,
+    };
+    let low = put_piece(operation, x, y, x, below, 0, n, part);
+    let top = put_piece(operation, x, y, y, inside, low, n, part);
+    let rest = put_piece(operation, x, y, x, above, top, n, part);
+    put_limbs(operation, x, y, x, rest, n, part);
 }
 
-// The upper bits of the field stand below `middle` afterwards, the others from there on.
+// The upper bits of the field come to its low end, and the others move up.
 fn write_rotate(x: &[u32], start: u64, end: u64, by: u64, n: usize, part: &mut [u32])
     requires { ⌜ 0 < length (now x) ⌝ }
     requires { ⌜ (start ≤ end) × (end < 2 ^ 32) ⌝ }
@@ -115,49 +163,37 @@ fn write_rotate(x: &[u32], start: u64, end: u64, by: u64, n: usize, part: &mut [
     requires { ⌜ (n ≤ length (now part)) × (n < 2 ^ 32) ⌝ }
     ensures { λ r. ⌜ Puts (limbAt (rotateBitField (value (now (x .entry))) start end (pos by))) (now (part .entry)) (now (part .exit)) 0 n ⌝ }
 {
-    let low = first_past(start, 0, n);
-    let inside = first_past(start + 31, low, n);
-    let middle = first_past(start + by, inside, n);
-    let others = first_past(start + by + 31, middle, n);
-    let top = first_past(end, others, n);
-    let above = first_past(end + 31, top, n);
-    put_windows(x, 0, 0, low, part);
-    put_limbs(
-        Operation::Rotate { start, end, by },
-        x,
-        x,
-        x,
-        low,
-        inside,
-        part,
-    );
-    put_windows(
-        x,
-        32 * (inside as u64) + (end - start - by),
-        inside,
-        middle,
-        part,
-    );
-    put_limbs(
-        Operation::Rotate { start, end, by },
-        x,
-        x,
-        x,
-        middle,
-        others,
-        part,
-    );
-    put_windows(x, gap(by, 32 * (others as u64)), others, top, part);
-    put_limbs(
-        Operation::Rotate { start, end, by },
-        x,
-        x,
-        x,
-        top,
-        above,
-        part,
-    );
-    put_windows(x, 32 * (above as u64), above, n, part);
+    let operation = Operation::Rotate { start, end, by };
+    let middle = start + by;
+    let below = Piece {
+        from: 0,
+        to: start,
+        up: 0,
+        down: 0,
+    };
+    let upper = Piece {
+        from: start,
+        to: middle,
+        up: end - middle,
+        down: 0,
+    };
+    let others = Piece {
+        from: middle,
+        to: end,
+        up: 0,
+        down: by,
+    };
+    let above = Piece {
+        from: end,
+        to: FAR,
+        up: 0,
+        down: 0,
+    };
+    let low = put_piece(operation, x, x, x, below, 0, n, part);
+    let between = put_piece(operation, x, x, x, upper, low, n, part);
+    let top = put_piece(operation, x, x, x, others, between, n, part);
+    let rest = put_piece(operation, x, x, x, above, top, n, part);
+    put_limbs(operation, x, x, x, rest, n, part);
 }
 
 fn write_reverse(x: &[u32], start: u64, end: u64, n: usize, part: &mut [u32])
