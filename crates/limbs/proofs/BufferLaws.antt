@@ -110,6 +110,14 @@ turn-more {j} v t e h k = record {
 pub turn-all : {f : ℕ → ℕ} {first part : List ℕ} {from to j : ℕ} → Turn f first part from to j → to ≤ j → Puts f first part from to
 turn-all {f} {first} {part} {from} t h = subst (λ (k : ℕ). Puts f first part from k) (le-antisymm (t .high) h) (t .so-far)
 
+-- ---- the part of the buffer from the first limb on
+
+whole-part : (out : List ℕ) (first : ℕ) → take (length out - first) (drop first out) ≡ drop first out
+whole-part out first = take-all (length out - first) (drop first out) (omega (arith, length-drop first out))
+
+pub part-length : (out : List ℕ) (first : ℕ) → length (take (length out - first) (drop first out)) ≡ length out - first
+part-length out first = ap length (whole-part out first) ∙ length-drop first out
+
 -- ---- the answer of a call that has its integer
 
 module _ (z : ℤ) (out : List ℕ) (first n : ℕ) (counted : n ≡ limbCount z) where
@@ -125,14 +133,11 @@ module _ (z : ℤ) (out : List ℕ) (first n : ℕ) (counted : n ≡ limbCount z
     yes : leb (length (shortest z)) (length out - first) ≡ true
     yes = le-leb (length (shortest z)) (length out - first) (omega (arith, length-shortest z))
 
-    whole : take (length out - first) (drop first out) ≡ drop first out
-    whole = take-all (length out - first) (drop first out) (omega (arith, length-drop first out))
-
     limbs-part : part ≡ shortest z ++ drop (first + length (shortest z)) out
     unfolding shortest
     limbs-part =
-        puts-limbs z w (omega (arith, ap length whole, length-drop first out))
-        ∙ ap (λ (l : List ℕ). limbsOf n z ++ drop n l) whole
+        puts-limbs z w (omega (arith, part-length out first))
+        ∙ ap (λ (l : List ℕ). limbsOf n z ++ drop n l) (whole-part out first)
         ∙ ap (λ (l : List ℕ). limbsOf n z ++ l) (drop-drop n first out)
         ∙ ap (λ (k : ℕ). limbsOf k z ++ drop (first + k) out) counted
         ∙ ap (λ (k : ℕ). limbsOf (limbCount z) z ++ drop (first + k) out) (sym (length-limbsOf (limbCount z) z))

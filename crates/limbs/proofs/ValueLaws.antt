@@ -142,6 +142,10 @@ pub limbCount-positive : (z : ℤ) → 0 < limbCount z
 unfolding limbCount
 limbCount-positive z = omega arith
 
+pub limbCount-le : (z : ℤ) (n : ℕ) → bitLength z < 32 * n → limbCount z ≤ n
+unfolding limbCount
+limbCount-le z n h = omega arith
+
 pub length-shortest : (z : ℤ) → length (shortest z) ≡ limbCount z
 unfolding shortest
 length-shortest z = length-limbsOf (limbCount z) z

@@ -1,58 +1,71 @@
+-- `limbs::run::place` meets its contract. Assumes nothing.
+use native.Mathlib.Omega.{arith}
+use mathlib.Core.Path.{sym, _∙_}
+use lib.IntN.{ℤ}
+use Rattle.limbs.specs.Value.{value}
+use Rattle.limbs.specs.Results.{meaning}
+use Rattle.limbs.proofs.ValueLaws.{limbCount-positive}
+use Rattle.limbs.proofs.BufferLaws.{part-length, no-room, laid-answer, laid-buffer}
 use borrow.Author.Needs.{needs}
 use Rattle.limbs.proofs.run.place.Statement.{statement}
 use Rattle.limbs.proofs.run.place.Tie as tie
-use Rattle.limbs.proofs.run.place.Reads as reads
-use Rattle.limbs.proofs.run.place.Lts as lts
-use Rattle.limbs.proofs.run.refuse.Reads as refuse-reads
-use Rattle.limbs.proofs.write.write.Reads as write-reads
 
--- src/run.rt:42:9
+-- the integer that is written
+abbrev result : tie.Start → ℤ
+result a = meaning (a .args .operation) (value (a .args .x .now)) (value (a .args .y .now)) (value (a .args .z .now))
+
 refuse-requires : tie.Need-refuse-requires
 refuse-requires c κs = search needs
 
--- src/run.rt:42:9
 returns : tie.Need-returns
-returns c = ?
+returns c =
+    let a = c .before .before .before .before .before .before in
+    let n = a .pre .1 .1 .1 .1 in
+    let l = no-room _ (a .args .out .now) (a .args .first) (a .args .n) n (omega (arith, n, limbCount-positive (result a))) in
+    record { answer = c .refuse .ensures ∙ sym (l .0); buffer = sym (l .1) }
 
--- src/run.rt:44:8
 sub-if2 : tie.Need-sub-if2
 sub-if2 c = search needs
 
--- src/run.rt:45:9
 refuse-requires-2 : tie.Need-refuse-requires-2
 refuse-requires-2 c κs = search needs
 
--- src/run.rt:45:9
 returns-2 : tie.Need-returns-2
-returns-2 c = ?
+returns-2 c =
+    let a = c .before .before .before .before .before .before .before in
+    let l = no-room _ (a .args .out .now) (a .args .first) (a .args .n) (a .pre .1 .1 .1 .1) (omega arith) in
+    record { answer = c .refuse2 .ensures ∙ sym (l .0); buffer = sym (l .1) }
 
--- src/run.rt:47:34
 mul-write : tie.Need-mul-write
 mul-write c = search needs
 
--- src/run.rt:47:34
 sub-write : tie.Need-sub-write
 sub-write c = search needs
 
--- src/run.rt:47:34
 part-write-start : tie.Need-part-write-start
 part-write-start c = search needs
 
--- src/run.rt:47:34
 part-write-end : tie.Need-part-write-end
 part-write-end c = search needs
 
--- src/run.rt:47:5
 write-requires : tie.Need-write-requires
-write-requires c κs = ?
+write-requires c κs =
+    let a = c .before .before .before .before .before .before .before in
+    let p = a .pre in
+    (p .0, (p .1 .0, (p .1 .1 .0, (p .1 .1 .1 .0 .0, (omega (arith, part-length (a .args .out .now) (a .args .first)), p .1 .1 .1 .0 .1)))))
 
--- src/run.rt:24:1
 same-length : tie.Need-same-length
 same-length c = search needs
 
--- src/run.rt:24:1
 returns-3 : tie.Need-returns-3
-returns-3 c = ?
+returns-3 c =
+    let a = c .before .before .before .before .before .before .before .before .before .before in
+    let n = a .pre .1 .1 .1 .1 in
+    let w = c .before .before .write .ensures in
+    record {
+      answer = laid-answer _ _ _ (a .args .n) n _ (omega arith) (omega arith) w;
+      buffer = laid-buffer _ _ _ (a .args .n) n _ (omega arith) (omega arith) w;
+    }
 
 pub place-spec : {M : Type 1} → statement M
 place-spec =

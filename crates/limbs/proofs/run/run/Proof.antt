@@ -1,24 +1,22 @@
+-- `limbs::run::run` meets its contract. Assumes nothing.
+use native.Mathlib.Omega.{arith}
+use Rattle.limbs.proofs.ValueLaws.{limbCount-le}
 use borrow.Author.Needs.{needs}
 use Rattle.limbs.proofs.run.run.Statement.{statement}
 use Rattle.limbs.proofs.run.run.Tie as tie
-use Rattle.limbs.proofs.run.run.Reads as reads
-use Rattle.limbs.proofs.run.run.Lts as lts
-use Rattle.limbs.proofs.measure.measure.Reads as measure-reads
-use Rattle.limbs.proofs.run.place.Reads as place-reads
 
--- src/run.rt:70:9
 measure-requires : tie.Need-measure-requires
 measure-requires c κs = search needs
 
--- src/run.rt:71:5
 place-requires : tie.Need-place-requires
-place-requires c κs = ?
+place-requires c κs =
+    let p = c .before .before .before .before .before .before .pre in
+    let n = c .before .measure .ensures in
+    (p .0, (p .1 .0, (p .1 .1 .0, ((p .1 .1 .1 .0 .0, omega (arith, n, limbCount-le _ _ (p .1 .1 .1 .1))), n))))
 
--- src/run.rt:54:1
 same-length : tie.Need-same-length
 same-length c = search needs
 
--- src/run.rt:54:1
 returns : tie.Need-returns
 returns c = search needs
 

@@ -1,161 +1,160 @@
+-- `limbs::write::write` meets its contract. Assumes nothing.
+use Prim.Native.Nat.{ℕ}
+use mathlib.Core.Path.{_≡_, sym, subst}
+use mathlib.Core.List.{List}
+use lib.IntN.{ℤ}
+use Rattle.limbs.specs.declared.result.Operation.{Operation}
+use Rattle.limbs.specs.Value.{limbAt}
+use Rattle.limbs.specs.Buffer.{Puts}
+use Rattle.limbs.specs.Results.{meaning, Proper}
 use borrow.Author.Needs.{needs}
 use Rattle.limbs.proofs.write.write.Statement.{statement}
 use Rattle.limbs.proofs.write.write.Tie as tie
-use Rattle.limbs.proofs.write.write.Reads as reads
-use Rattle.limbs.proofs.write.write.Lts as lts
-use Rattle.limbs.proofs.logical.write_if.Reads as write-if-reads
-use Rattle.limbs.proofs.logical.write_logical.Reads as write-logical-reads
-use Rattle.limbs.proofs.logical.write_not.Reads as write-not-reads
-use Rattle.limbs.proofs.write.write_copy_field.Reads as write-copy-field-reads
-use Rattle.limbs.proofs.write.write_field.Reads as write-field-reads
-use Rattle.limbs.proofs.write.write_reverse.Reads as write-reverse-reads
-use Rattle.limbs.proofs.write.write_rotate.Reads as write-rotate-reads
-use Rattle.limbs.proofs.write.write_shift_left.Reads as write-shift-left-reads
-use Rattle.limbs.proofs.write.write_shift_right.Reads as write-shift-right-reads
 
--- src/write.rt:222:46
 enum-told : tie.Need-enum-told
 enum-told c = search needs
 
--- src/write.rt:222:27
 write-not-requires : tie.Need-write-not-requires
 write-not-requires c κs = search needs
 
--- src/write.rt:223:28
 enum-known-operation : tie.Need-enum-known-operation
 enum-known-operation c = search needs
 
--- src/write.rt:223:35
 write-logical-requires : tie.Need-write-logical-requires
 write-logical-requires c κs = search needs
 
--- src/write.rt:224:50
 enum-told-2 : tie.Need-enum-told-2
 enum-told-2 c = search needs
 
--- src/write.rt:224:26
 write-if-requires : tie.Need-write-if-requires
 write-if-requires c κs = search needs
 
--- src/write.rt:225:32
 enum-known-operation-2 : tie.Need-enum-known-operation-2
 enum-known-operation-2 c = search needs
 
--- src/write.rt:225:40
 write-shift-left-requires : tie.Need-write-shift-left-requires
-write-shift-left-requires c κs = ?
+unfolding Proper
+write-shift-left-requires c κs =
+    let p = c .before .before .before .before .before .before .before .before .pre in
+    let q = subst Proper (c .before .before .operation2 .given .1) (p .1 .1 .1 .0) in
+    ((p .0, q), p .1 .1 .1 .1)
 
--- src/write.rt:226:33
 enum-known-operation-3 : tie.Need-enum-known-operation-3
 enum-known-operation-3 c = search needs
 
--- src/write.rt:226:41
 write-shift-right-requires : tie.Need-write-shift-right-requires
-write-shift-right-requires c κs = ?
+unfolding Proper
+write-shift-right-requires c κs =
+    let p = c .before .before .before .before .before .before .before .before .pre in
+    let q = subst Proper (c .before .before .operation3 .given .1) (p .1 .1 .1 .0) in
+    ((p .0, q), p .1 .1 .1 .1)
 
--- src/write.rt:227:28
 enum-known-operation-4 : tie.Need-enum-known-operation-4
 enum-known-operation-4 c = search needs
 
--- src/write.rt:227:44
 write-field-requires : tie.Need-write-field-requires
-write-field-requires c κs = ?
+unfolding Proper
+write-field-requires c κs =
+    let p = c .before .before .before .before .before .before .before .before .pre in
+    let q = subst Proper (c .before .before .operation4 .given .1) (p .1 .1 .1 .0) in
+    (p .0, (q, p .1 .1 .1 .1))
 
--- src/write.rt:228:32
 enum-known-operation-5 : tie.Need-enum-known-operation-5
 enum-known-operation-5 c = search needs
 
--- src/write.rt:228:48
 write-copy-field-requires : tie.Need-write-copy-field-requires
-write-copy-field-requires c κs = ?
+unfolding Proper
+write-copy-field-requires c κs =
+    let p = c .before .before .before .before .before .before .before .before .pre in
+    let q = subst Proper (c .before .before .operation5 .given .1) (p .1 .1 .1 .0) in
+    ((p .0, p .1 .0), (q, p .1 .1 .1 .1))
 
--- src/write.rt:229:29
 enum-known-operation-6 : tie.Need-enum-known-operation-6
 enum-known-operation-6 c = search needs
 
--- src/write.rt:229:49
 write-rotate-requires : tie.Need-write-rotate-requires
-write-rotate-requires c κs = ?
+unfolding Proper
+write-rotate-requires c κs =
+    let p = c .before .before .before .before .before .before .before .before .pre in
+    let q = subst Proper (c .before .before .operation6 .given .1) (p .1 .1 .1 .0) in
+    (p .0, (q .0, (q .1, p .1 .1 .1 .1)))
 
--- src/write.rt:230:30
 enum-known-operation-7 : tie.Need-enum-known-operation-7
 enum-known-operation-7 c = search needs
 
--- src/write.rt:230:46
 write-reverse-requires : tie.Need-write-reverse-requires
-write-reverse-requires c κs = ?
+unfolding Proper
+write-reverse-requires c κs =
+    let p = c .before .before .before .before .before .before .before .before .pre in
+    let q = subst Proper (c .before .before .operation7 .given .1) (p .1 .1 .1 .0) in
+    (p .0, (q, p .1 .1 .1 .1))
 
--- src/write.rt:213:1
 same-length : tie.Need-same-length
 same-length c = search needs
 
--- src/write.rt:213:1
-returns : tie.Need-returns
-returns c = ?
+-- the operation that an arm of the match stands for
+arm : (x y z : ℤ) (p q : List ℕ) (n : ℕ) {o r : Operation} → o ≡ r → Puts (limbAt (meaning r x y z)) p q 0 n → Puts (limbAt (meaning o x y z)) p q 0 n
+arm x y z p q n e = subst (λ (r : Operation). Puts (limbAt (meaning r x y z)) p q 0 n) (sym e)
 
--- src/write.rt:213:1
+returns : tie.Need-returns
+unfolding meaning
+returns c = arm _ _ _ _ _ _ (c .before .before .before .before .enum-told .given .1) (c .before .before .write-not .ensures)
+
 same-length-2 : tie.Need-same-length-2
 same-length-2 c = search needs
 
--- src/write.rt:213:1
 returns-2 : tie.Need-returns-2
-returns-2 c = ?
+unfolding meaning
+returns-2 c = arm _ _ _ _ _ _ (c .before .before .before .before .before .operation .given .1) (c .before .before .write-logical .ensures)
 
--- src/write.rt:213:1
 same-length-3 : tie.Need-same-length-3
 same-length-3 c = search needs
 
--- src/write.rt:213:1
 returns-3 : tie.Need-returns-3
-returns-3 c = ?
+unfolding meaning
+returns-3 c = arm _ _ _ _ _ _ (c .before .before .before .before .enum-told2 .given .1) (c .before .before .write-if .ensures)
 
--- src/write.rt:213:1
 same-length-4 : tie.Need-same-length-4
 same-length-4 c = search needs
 
--- src/write.rt:213:1
 returns-4 : tie.Need-returns-4
-returns-4 c = ?
+unfolding meaning
+returns-4 c = arm _ _ _ _ _ _ (c .before .before .before .before .before .operation2 .given .1) (c .before .before .write-shift-left .ensures)
 
--- src/write.rt:213:1
 same-length-5 : tie.Need-same-length-5
 same-length-5 c = search needs
 
--- src/write.rt:213:1
 returns-5 : tie.Need-returns-5
-returns-5 c = ?
+unfolding meaning
+returns-5 c = arm _ _ _ _ _ _ (c .before .before .before .before .before .operation3 .given .1) (c .before .before .write-shift-right .ensures)
 
--- src/write.rt:213:1
 same-length-6 : tie.Need-same-length-6
 same-length-6 c = search needs
 
--- src/write.rt:213:1
 returns-6 : tie.Need-returns-6
-returns-6 c = ?
+unfolding meaning
+returns-6 c = arm _ _ _ _ _ _ (c .before .before .before .before .before .operation4 .given .1) (c .before .before .write-field .ensures)
 
--- src/write.rt:213:1
 same-length-7 : tie.Need-same-length-7
 same-length-7 c = search needs
 
--- src/write.rt:213:1
 returns-7 : tie.Need-returns-7
-returns-7 c = ?
+unfolding meaning
+returns-7 c = arm _ _ _ _ _ _ (c .before .before .before .before .before .operation5 .given .1) (c .before .before .write-copy-field .ensures)
 
--- src/write.rt:213:1
 same-length-8 : tie.Need-same-length-8
 same-length-8 c = search needs
 
--- src/write.rt:213:1
 returns-8 : tie.Need-returns-8
-returns-8 c = ?
+unfolding meaning
+returns-8 c = arm _ _ _ _ _ _ (c .before .before .before .before .before .operation6 .given .1) (c .before .before .write-rotate .ensures)
 
--- src/write.rt:213:1
 same-length-9 : tie.Need-same-length-9
 same-length-9 c = search needs
 
--- src/write.rt:213:1
 returns-9 : tie.Need-returns-9
-returns-9 c = ?
+unfolding meaning
+returns-9 c = arm _ _ _ _ _ _ (c .before .before .before .before .before .operation7 .given .1) (c .before .before .write-reverse .ensures)
 
 pub write-spec : {M : Type 1} → statement M
 write-spec =
