@@ -8,6 +8,7 @@ ghost use mathlib.Core.Bool.{_&&_, _||_, xor};
 ghost use Rattle.limbs.specs.Buffer.{Writes};
 ghost use Rattle.limbs.specs.Operations.{notOutcome, bitwiseOutcome, ifOutcome};
 
+mod count;
 mod limb;
 mod logical;
 mod measure;
