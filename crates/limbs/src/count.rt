@@ -1,6 +1,6 @@
 // What is counted of an operand's bits. A negative integer is counted by its complement.
 ghost use mathlib.Core.Path.{_≡_};
-ghost use Prim.Native.Nat.{_+_, _*_, _-_, _<_};
+ghost use Prim.Native.Nat.{_+_, _*_, _-_, _≤_, _<_};
 ghost use lib.IntN.{pos};
 ghost use lib.ListN.{length};
 ghost use Rattle.bits.specs.Testbit.{bitLength};
@@ -35,7 +35,7 @@ pub fn bit_count(x: &[u32]) -> i64
     if sign == 0 { n as i64 } else { !(n as i64) }
 }
 
-pub fn length(x: &[u32]) -> u64
+pub fn bit_length(x: &[u32]) -> u64
     requires { ⌜ (0 < length (now x)) × (length (now x) ≤ 1024) ⌝ }
     ensures { λ r. ⌜ r ≡ bitLength (value (now (x .entry))) ⌝ }
 {

@@ -14,7 +14,7 @@ fn join(low: u32, high: u32, k: u64) -> u32
 }
 
 // What continues x past its last limb.
-fn padding(x: &[u32]) -> u32
+pub fn padding(x: &[u32]) -> u32
     requires { ⌜ 0 < length (now x) ⌝ }
     ensures { λ r. ⌜ r ≡ bitsFrom (value (now (x .entry))) (32 * length (now (x .entry))) ⌝ }
 {
