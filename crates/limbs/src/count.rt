@@ -1,12 +1,14 @@
-// What is counted of an operand's bits. A negative integer is counted by its complement.
+// What is counted of an operand's bits. A negative integer is counted by its complement: each limb exclusive or with what
+// continues the operand.
 ghost use mathlib.Core.Path.{_≡_};
-ghost use Prim.Native.Nat.{_+_, _*_, _-_, _≤_, _<_};
+ghost use Prim.Native.Nat.{_≤_, _<_};
 ghost use lib.IntN.{pos};
 ghost use lib.ListN.{length};
 ghost use Rattle.bits.specs.Testbit.{bitLength};
 ghost use Rattle.bits.specs.Count.{ones, bitCount, firstBitSet};
 ghost use Rattle.limbs.specs.Value.{value};
 use super::limb::padding;
+use super::signed::from_magnitude;
 
 // How many ones a limb has.
 fn ones_of(w: u32) -> u64
@@ -21,6 +23,13 @@ fn ones_of(w: u32) -> u64
     n
 }
 
+// How many bits a limb has, without leading zeros.
+fn length_of(w: u32) -> u64
+    ensures { λ r. ⌜ r ≡ bitLength (pos w) ⌝ }
+{
+    32 - (u32::leading_zeros(w) as u64)
+}
+
 pub fn bit_count(x: &[u32]) -> i64
     requires { ⌜ (0 < length (now x)) × (length (now x) ≤ 1024) ⌝ }
     ensures { λ r. ⌜ r ≡ bitCount (value (now (x .entry))) ⌝ }
@@ -32,23 +41,24 @@ pub fn bit_count(x: &[u32]) -> i64
         n += ones_of(x[j] ^ sign);
         j += 1;
     }
-    if sign == 0 { n as i64 } else { !(n as i64) }
+    from_magnitude(sign != 0, n)
 }
 
+// From the last limb downwards to one that does not only continue the sign.
 pub fn bit_length(x: &[u32]) -> u64
     requires { ⌜ (0 < length (now x)) × (length (now x) ≤ 1024) ⌝ }
     ensures { λ r. ⌜ r ≡ bitLength (value (now (x .entry))) ⌝ }
 {
     let sign = padding(x);
     let mut n = x.len();
-    while 0 < n && x[n - 1] == sign {
+    while 0 < n {
+        let top = x[n - 1];
+        if top != sign {
+            return 32 * ((n - 1) as u64) + length_of(top ^ sign);
+        }
         n -= 1;
     }
-    if n == 0 {
-        return 0;
-    }
-    let top = (x[n - 1] ^ sign) as u64;
-    32 * (n as u64) + 32 - (u64::leading_zeros(top) as u64)
+    0
 }
 
 // The lowest limb that is not zero, and in it the lowest one.

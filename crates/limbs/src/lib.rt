@@ -15,6 +15,7 @@ mod measure;
 mod operand;
 mod result;
 mod run;
+mod signed;
 
 use operand::combine_operands;
 use operand::is_operand;

@@ -1,6 +1,5 @@
 pub mod WordLaws
 pub mod LogicalWords
-pub mod CountWords
 pub mod DivisionWords
 pub mod FieldLaws
 pub mod SignedLaws
