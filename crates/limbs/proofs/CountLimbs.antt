@@ -3,7 +3,7 @@
 use Prim.Native.Nat.{ℕ, _+_, _*_, _-_, _/_, _%_, _^_, _≤_, _<_}
 use native.Mathlib.Nat.{le-of-lt}
 use native.Mathlib.Omega.{arith}
-use mathlib.Core.Path.{_≡_, refl, sym, ap, ap₂, _∙_}
+use mathlib.Core.Path.{_≡_, refl, sym, ap, ap₂, _∙_, subst}
 use mathlib.Core.Logic.{_↔_}
 use mathlib.Core.Bool.{Bool, true, false, cond, not, xor, true≢false}
 use mathlib.Core.List.{List}
@@ -12,8 +12,8 @@ use lib.Dec.{eqb, ltb}
 use lib.IntN.{ℤ, pos, negsuc}
 use lib.ListN.{length, getD}
 use lib.Signed.{mag}
-use borrow.Author.Tests.{eqb-true, eqb-false}
-use Rattle.bits.specs.Testbit.{isNegative, testbit, bitLength}
+use borrow.Author.Tests.{eqb-true, eqb-false, eq-eqb, ne-eqb}
+use Rattle.bits.specs.Testbit.{odd, isNegative, testbit, bitLength}
 use Rattle.bits.specs.Sign.{ofMagnitude}
 use Rattle.bits.specs.Logical.{bitwiseNot}
 use Rattle.bits.specs.Shift.{floorDiv, shiftRight}
@@ -22,10 +22,10 @@ use Rattle.bits.specs.Count.{onesBelow, ones, bitCount, firstBitSet}
 use Rattle.bits.proofs.TestbitLaws.{by-lt, testbit-ext, testbit-zero, testbit-above}
 use Rattle.bits.proofs.MagnitudeLaws.{bitLength-mag, testbit-mag}
 use Rattle.bits.proofs.LengthLaws.{bitLength-le, mag-lt, bitLength-least-bits, testbit-top}
-use Rattle.bits.proofs.CountLaws.{onesBelow-ext, onesBelow-le, onesBelow-split, ones-onesBelow, firstBitSet-none}
+use Rattle.bits.proofs.CountLaws.{onesBelow-ext, onesBelow-le, onesBelow-split, ones-onesBelow, firstBitSet-unique, firstBitSet-none}
 use Rattle.bits.proofs.Digitwise.{testbit-digitwise, xor-digitwise}
 use Rattle.limbs.specs.Value.{value, bitsFrom}
-use Rattle.limbs.proofs.ValueLaws.{small-bits, value-length}
+use Rattle.limbs.proofs.ValueLaws.{small-bits, testbit-value, value-length}
 use Rattle.limbs.proofs.LimbLaws.{bitsFrom-lt, testbit-bitsFrom, word-ext, limb-value, bitsFrom-above}
 
 -- what continues an integer is not 0 exactly where it is negative
@@ -123,24 +123,31 @@ none-firstBitSet z k h none = sym (firstBitSet-none z .1 (testbit-ext (λ i. bit
     bit i = by-lt (λ b. testbit z i ≡ false) i k (none i) (λ g. testbit-above z i (omega arith) ∙ sign)
 
 -- one bit more
-pub none-more : (z : ℤ) (k : ℕ) → NoneBelow z k → testbit z k ≡ false → NoneBelow z (k + 1)
+none-more : (z : ℤ) (k : ℕ) → NoneBelow z k → testbit z k ≡ false → NoneBelow z (k + 1)
 none-more z k none e i h = go (eqb i k) refl
   where
     go : (b : Bool) → eqb i k ≡ b → testbit z i ≡ false
     go true q = ap (testbit z) (eqb-true i k q) ∙ e
     go false q = let n = eqb-false i k q in none i (omega arith)
 
--- ---- one word
+module _ (xs : List ℕ) (j i : ℕ) (h : j < length xs) (l : i < 32) (none : NoneBelow (value xs) (32 * j + i)) where
+  tested : testbit (value xs) (32 * j + i) ≡ eqb (getD xs j 0 / 2 ^ i % 2) 1
+  unfolding testbit odd
+  tested = testbit-value xs j i h l
 
+  -- bit i of limb j is the first one
+  pub one-found : getD xs j 0 / 2 ^ i % 2 ≡ 1 → pos (32 * j + i) ≡ firstBitSet (value xs)
+  one-found e = sym (firstBitSet-unique (value xs) (32 * j + i) (tested ∙ eq-eqb (getD xs j 0 / 2 ^ i % 2) 1 e) none)
+
+  pub none-here : (getD xs j 0 / 2 ^ i % 2 ≡ 1 → ⊥) → NoneBelow (value xs) (32 * j + (i + 1))
+  none-here e =
+      let next : 32 * j + i + 1 ≡ 32 * j + (i + 1) = omega arith in
+      subst (NoneBelow (value xs)) next (none-more (value xs) (32 * j + i) none (tested ∙ ne-eqb (getD xs j 0 / 2 ^ i % 2) 1 e))
+
+-- two limbs of a number below 2^63
 joined : (m : ℕ) → m < 2 ^ 63 → bitsFrom (pos m) 32 * 4294967296 + bitsFrom (pos m) 0 ≡ m
 unfolding bitsFrom shiftRight floorDiv modℕ
 joined m h = omega arith
-
--- two limbs of the magnitude
-pub two-limbs : (z : ℤ) (k : ℕ) → bitLength z ≤ k → bitLength z < 64
-    → bitXor (bitsFrom z 32) (bitsFrom z k) * 4294967296 + bitXor (bitsFrom z 0) (bitsFrom z k) ≡ mag z
-two-limbs z k h l =
-    ap₂ (λ (a b : ℕ). a * 4294967296 + b) (limb-mag z 32 k h) (limb-mag z 0 k h) ∙ joined (mag z) (mag-lt z 63 (omega arith))
 
 -- ---- the limbs of an operand, with what continues it
 
@@ -157,6 +164,13 @@ module _ (xs : List ℕ) (s : ℕ) (e : s ≡ bitsFrom (value xs) (32 * length x
 
   pub operand-sign : not (eqb s 0) ≡ isNegative (value xs)
   operand-sign = ap (λ (n : ℕ). not (eqb n 0)) e ∙ sign-test (value xs) (32 * length xs) long
+
+  -- two limbs are the magnitude of a value that one word can hold
+  pub two-limbs : (low high : ℕ) → low ≡ bitsFrom (value xs) 0 → high ≡ bitsFrom (value xs) 32 → bitLength (value xs) < 64
+      → bitXor high s * 4294967296 + bitXor low s ≡ mag (value xs)
+  two-limbs low high p q l =
+      ap₂ (λ (m n : ℕ). m * 4294967296 + n) (ap₂ bitXor q e ∙ limb-mag (value xs) 32 (32 * length xs) long) (ap₂ bitXor p e ∙ limb-mag (value xs) 0 (32 * length xs) long)
+      ∙ joined (mag (value xs)) (mag-lt (value xs) 63 (omega arith))
 
   -- all limbs are counted
   pub onesOf-all : {n : ℕ} → n ≡ onesOf xs (length xs) → ofMagnitude (not (eqb s 0)) n ≡ bitCount (value xs)

@@ -1,11 +1,19 @@
+-- `limbs::signed::word` meets its contract. Assumes nothing.
+use Prim.Native.Nat.{_+_, _*_, _^_, _<_}
+use native.Mathlib.Omega.{arith}
+use mathlib.Core.Path.{_≡_, ap, ap₂, _∙_}
+use lib.Bits.{bitXor, xor-lt}
+use lib.Signed.{mag}
+use mir.Syntax.{w64}
+use mir.ValLaws.{toZ-ofZ}
 use borrow.Author.Needs.{needs}
+use Rattle.bits.specs.Sign.{ofMagnitude}
+use Rattle.bits.proofs.LengthLaws.{mag-lt}
+use Rattle.bits.proofs.MagnitudeLaws.{ofMagnitude-mag}
+use Rattle.limbs.specs.Value.{value}
+use Rattle.limbs.proofs.CountLimbs.{operand-sign, two-limbs}
 use Rattle.limbs.proofs.signed.word.Statement.{statement}
 use Rattle.limbs.proofs.signed.word.Tie as tie
-use Rattle.limbs.proofs.signed.word.Reads as reads
-use Rattle.limbs.proofs.signed.word.Lts as lts
-use Rattle.limbs.proofs.limb.limb.Reads as limb-reads
-use Rattle.limbs.proofs.limb.padding.Reads as padding-reads
-use Rattle.limbs.proofs.signed.from_magnitude.Reads as from-magnitude-reads
 
 -- src/signed.rt:25:9
 padding-requires : tie.Need-padding-requires
@@ -17,7 +25,7 @@ limb-requires c κs = search needs
 
 -- src/signed.rt:26:15
 cast-low : tie.Need-cast-low
-cast-low c = ?
+cast-low c = record { fits = omega (arith, xor-lt 32 (c .limb .result) (c .before .padding .result) (c .limb .ok) (c .before .padding .ok)) }
 
 -- src/signed.rt:27:17
 limb-requires-2 : tie.Need-limb-requires-2
@@ -25,23 +33,37 @@ limb-requires-2 c κs = search needs
 
 -- src/signed.rt:27:16
 cast-high : tie.Need-cast-high
-cast-high c = ?
+cast-high c = record { fits = omega (arith, xor-lt 32 (c .limb2 .result) (c .before .before .padding .result) (c .limb2 .ok) (c .before .before .padding .ok)) }
 
--- src/signed.rt:28:31
+-- the two limbs are the magnitude
+joined : (c : tie.After-limb2) → let s = c .before .before .padding .result in
+    bitXor (c .limb2 .result) s * 4294967296 + bitXor (c .before .limb .result) s ≡ mag (value (c .before .before .before .before .args .x .now))
+joined c =
+    let a = c .before .before .before .before in
+    two-limbs _ _ (c .before .before .padding .ensures) (a .pre .0) _ _ (c .before .limb .ensures) (c .limb2 .ensures) (a .pre .1)
+
+below : (c : tie.After-limb2) → mag (value (c .before .before .before .before .args .x .now)) < 2 ^ 63
+below c = let a = c .before .before .before .before in mag-lt (value (a .args .x .now)) 63 (omega (arith, a .pre .1))
+
 mul-from-magnitude : tie.Need-mul-from-magnitude
-mul-from-magnitude c = ?
+mul-from-magnitude c = omega (arith, joined c, below c)
 
 -- src/signed.rt:28:31
 add-from-magnitude : tie.Need-add-from-magnitude
-add-from-magnitude c = ?
+add-from-magnitude c = omega (arith, joined c, below c)
 
 -- src/signed.rt:28:5
 from-magnitude-requires : tie.Need-from-magnitude-requires
-from-magnitude-requires c κs = ?
+from-magnitude-requires c κs = omega (arith, joined c, below c)
 
 -- src/signed.rt:21:1
 returns : tie.Need-returns
-returns c = ?
+returns c =
+    let a = c .before .before .before .before .before in
+    toZ-ofZ w64 _ (record { sfits = c .from-magnitude .ok })
+    ∙ c .from-magnitude .ensures
+    ∙ ap₂ ofMagnitude (operand-sign _ _ (c .before .before .before .padding .ensures) (a .pre .0)) (joined (c .before))
+    ∙ ofMagnitude-mag (value (a .args .x .now))
 
 pub word-spec : {M : Type 1} → statement M
 word-spec =
