@@ -5,4 +5,5 @@ pub mod BufferLaws
 pub mod LogicalLaws
 pub mod CountLimbs
 pub mod OutcomeLaws
+pub mod NumberLaws
 pub mod Cases

@@ -4,9 +4,10 @@
 // shortest limbs of the result from there on, and changes no other limb. Refusals, in this order: 7 for an operand of no limb or of
 // more than 1,024, 5 for a number outside its domain, 6 for a result of more than 1,024 limbs, 8 for a buffer that is too short.
 // A refused call changes nothing.
+ghost use mathlib.Core.Path.{_≡_};
 ghost use mathlib.Core.Bool.{_&&_, _||_, xor};
-ghost use Rattle.limbs.specs.Buffer.{Writes};
-ghost use Rattle.limbs.specs.Operations.{notOutcome, bitwiseOutcome, ifOutcome};
+ghost use Rattle.limbs.specs.Buffer.{Writes, number};
+ghost use Rattle.limbs.specs.Operations.{notOutcome, bitwiseOutcome, ifOutcome, bitCountOutcome, lengthOutcome, firstBitSetOutcome, bitSetOutcome, wordOutcome};
 
 mod count;
 mod limb;
@@ -17,6 +18,10 @@ mod result;
 mod run;
 mod signed;
 
+use count::bit_count;
+use count::bit_length;
+use count::first_bit_set;
+use limb::window;
 use operand::combine_operands;
 use operand::is_operand;
 use operand::most;
@@ -24,6 +29,9 @@ use result::Logic;
 use result::Operation;
 use run::refuse;
 use run::run;
+use signed::done;
+use signed::refuse_number;
+use signed::word;
 
 // What a call answers that writes an integer: a refusal number, 0 for done, and how many limbs it has written.
 pub struct Written {
@@ -83,4 +91,60 @@ pub fn bitwise_if(x: &[u32], y: &[u32], z: &[u32], out: &mut [u32], first: u64) 
     }
     let enough = most(x.len(), most(y.len(), z.len()));
     run(Operation::If, x, y, z, enough, out, first)
+}
+
+// bitwise-bit-count
+pub fn bitwise_bit_count(x: &[u32]) -> Number
+    ensures { λ r. ⌜ r ≡ number (bitCountOutcome (now (x .entry))) ⌝ }
+{
+    if !is_operand(x) {
+        return refuse_number(7);
+    }
+    done(bit_count(x))
+}
+
+// bitwise-length
+pub fn bitwise_length(x: &[u32]) -> Number
+    ensures { λ r. ⌜ r ≡ number (lengthOutcome (now (x .entry))) ⌝ }
+{
+    if !is_operand(x) {
+        return refuse_number(7);
+    }
+    done(bit_length(x) as i64)
+}
+
+// bitwise-first-bit-set
+pub fn bitwise_first_bit_set(x: &[u32]) -> Number
+    ensures { λ r. ⌜ r ≡ number (firstBitSetOutcome (now (x .entry))) ⌝ }
+{
+    if !is_operand(x) {
+        return refuse_number(7);
+    }
+    done(first_bit_set(x))
+}
+
+// bitwise-bit-set?
+pub fn bitwise_bit_set(x: &[u32], position: i64) -> Number
+    ensures { λ r. ⌜ r ≡ number (bitSetOutcome (now (x .entry)) position) ⌝ }
+{
+    if !is_operand(x) {
+        return refuse_number(7);
+    }
+    if position < 0 {
+        return refuse_number(5);
+    }
+    done((window(x, position as u64) % 2) as i64)
+}
+
+// An integer as one signed 64-bit word; refusal 6 where it does not fit.
+pub fn to_word(x: &[u32]) -> Number
+    ensures { λ r. ⌜ r ≡ number (wordOutcome (now (x .entry))) ⌝ }
+{
+    if !is_operand(x) {
+        return refuse_number(7);
+    }
+    if 64 <= bit_length(x) {
+        return refuse_number(6);
+    }
+    done(word(x))
 }
