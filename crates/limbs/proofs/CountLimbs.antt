@@ -4,11 +4,10 @@ use Prim.Native.Nat.{ℕ, _+_, _*_, _-_, _/_, _%_, _^_, _≤_, _<_}
 use native.Mathlib.Nat.{le-of-lt}
 use native.Mathlib.Omega.{arith}
 use mathlib.Core.Path.{_≡_, refl, sym, ap, ap₂, _∙_, subst}
-use mathlib.Core.Logic.{_↔_}
 use mathlib.Core.Bool.{Bool, true, false, cond, not, xor, true≢false}
 use mathlib.Core.List.{List}
 use lib.Bits.{bitXor, xor-lt}
-use lib.Dec.{eqb, ltb}
+use lib.Dec.{eqb}
 use lib.IntN.{ℤ, pos, negsuc}
 use lib.ListN.{length, getD}
 use lib.Signed.{mag}
@@ -101,11 +100,11 @@ module _ (z : ℤ) (at k : ℕ) (h : bitLength z ≤ at + 32) (l : bitLength z �
           ∙ testbit-above z (k + (i - at)) (omega arith)
 
   -- the highest limb that does not
-  pub length-limb : (bitsFrom z at ≡ bitsFrom z k → ⊥) → at + bitLength (pos (bitXor (bitsFrom z at) (bitsFrom z k))) ≡ bitLength z
+  pub length-limb : (bitsFrom z at ≡ bitsFrom z k → ⊥) → at + bitLength (pos (bitsFrom (pos (mag z)) at)) ≡ bitLength z
   length-limb e =
       let longer : bitLength z ≤ at → ⊥ = (λ g. e (bitsFrom-above z at g ∙ sym (bitsFrom-above z k l))) in
       let same = bitLength-mag z in
-      ap (λ (n : ℕ). at + bitLength (pos n)) (limb-mag z at k l) ∙ length-highest (mag z) at (omega arith) (omega arith) ∙ same
+      length-highest (mag z) at (omega arith) (omega arith) ∙ same
 
 -- ---- the first bit set
 
@@ -113,6 +112,7 @@ module _ (z : ℤ) (at k : ℕ) (h : bitLength z ≤ at + 32) (l : bitLength z �
 abbrev pub NoneBelow : ℤ → ℕ → Type 0
 NoneBelow z k = (i : ℕ) → i < k → testbit z i ≡ false
 
+-- no one at all
 pub none-firstBitSet : (z : ℤ) (k : ℕ) → bitLength z < k → NoneBelow z k → negsuc 0 ≡ firstBitSet z
 none-firstBitSet z k h none = sym (firstBitSet-none z .1 (testbit-ext (λ i. bit i ∙ sym (testbit-zero i))))
   where
@@ -131,6 +131,7 @@ none-more z k none e i h = go (eqb i k) refl
     go false q = let n = eqb-false i k q in none i (omega arith)
 
 module _ (xs : List ℕ) (j i : ℕ) (h : j < length xs) (l : i < 32) (none : NoneBelow (value xs) (32 * j + i)) where
+  -- the code's test is that bit
   tested : testbit (value xs) (32 * j + i) ≡ eqb (getD xs j 0 / 2 ^ i % 2) 1
   unfolding testbit odd
   tested = testbit-value xs j i h l
@@ -139,15 +140,11 @@ module _ (xs : List ℕ) (j i : ℕ) (h : j < length xs) (l : i < 32) (none : No
   pub one-found : getD xs j 0 / 2 ^ i % 2 ≡ 1 → pos (32 * j + i) ≡ firstBitSet (value xs)
   one-found e = sym (firstBitSet-unique (value xs) (32 * j + i) (tested ∙ eq-eqb (getD xs j 0 / 2 ^ i % 2) 1 e) none)
 
+  -- it is no one: there is none below the next bit
   pub none-here : (getD xs j 0 / 2 ^ i % 2 ≡ 1 → ⊥) → NoneBelow (value xs) (32 * j + (i + 1))
   none-here e =
       let next : 32 * j + i + 1 ≡ 32 * j + (i + 1) = omega arith in
       subst (NoneBelow (value xs)) next (none-more (value xs) (32 * j + i) none (tested ∙ ne-eqb (getD xs j 0 / 2 ^ i % 2) 1 e))
-
--- two limbs of a number below 2^63
-joined : (m : ℕ) → m < 2 ^ 63 → bitsFrom (pos m) 32 * 4294967296 + bitsFrom (pos m) 0 ≡ m
-unfolding bitsFrom shiftRight floorDiv modℕ
-joined m h = omega arith
 
 -- ---- the limbs of an operand, with what continues it
 
@@ -158,45 +155,52 @@ onesOf xs j = onesBelow (32 * j) (testbit (pos (mag (value xs))))
 pub onesOf-le : (xs : List ℕ) (j : ℕ) → onesOf xs j ≤ 32 * j
 onesOf-le xs j = onesBelow-le (32 * j) (testbit (pos (mag (value xs))))
 
+-- a number of two limbs
+joined : (m : ℕ) → m < 2 ^ 63 → bitsFrom (pos m) 32 * 4294967296 + bitsFrom (pos m) 0 ≡ m
+unfolding bitsFrom shiftRight floorDiv modℕ
+joined m h = omega arith
+
 module _ (xs : List ℕ) (s : ℕ) (e : s ≡ bitsFrom (value xs) (32 * length xs)) (h : 0 < length xs) where
   long : bitLength (value xs) ≤ 32 * length xs
   long = le-of-lt (value-length xs h)
 
+  -- a limb, exclusive or with what continues the operand
+  flipped : (n at : ℕ) → n ≡ bitsFrom (value xs) at → bitXor n s ≡ bitsFrom (pos (mag (value xs))) at
+  flipped n at q = ap₂ bitXor q e ∙ limb-mag (value xs) at (32 * length xs) long
+
+  -- the code's test of the sign
   pub operand-sign : not (eqb s 0) ≡ isNegative (value xs)
   operand-sign = ap (λ (n : ℕ). not (eqb n 0)) e ∙ sign-test (value xs) (32 * length xs) long
-
-  -- two limbs are the magnitude of a value that one word can hold
-  pub two-limbs : (low high : ℕ) → low ≡ bitsFrom (value xs) 0 → high ≡ bitsFrom (value xs) 32 → bitLength (value xs) < 64
-      → bitXor high s * 4294967296 + bitXor low s ≡ mag (value xs)
-  two-limbs low high p q l =
-      ap₂ (λ (m n : ℕ). m * 4294967296 + n) (ap₂ bitXor q e ∙ limb-mag (value xs) 32 (32 * length xs) long) (ap₂ bitXor p e ∙ limb-mag (value xs) 0 (32 * length xs) long)
-      ∙ joined (mag (value xs)) (mag-lt (value xs) 63 (omega arith))
 
   -- all limbs are counted
   pub onesOf-all : {n : ℕ} → n ≡ onesOf xs (length xs) → ofMagnitude (not (eqb s 0)) n ≡ bitCount (value xs)
   onesOf-all p = ap₂ ofMagnitude operand-sign p ∙ ones-bitCount (value xs) (32 * length xs) long
 
-module _ (xs : List ℕ) (s j : ℕ) (b : (i : ℕ) → getD xs i 0 < 2 ^ 32) (e : s ≡ bitsFrom (value xs) (32 * length xs)) (h : j < length xs) where
-  length-limbs : bitLength (value xs) ≤ 32 * length xs
-  length-limbs = le-of-lt (value-length xs (omega arith))
+  -- two limbs of a value that one word can hold
+  pub two-limbs : (low high : ℕ) → low ≡ bitsFrom (value xs) 0 → high ≡ bitsFrom (value xs) 32 → bitLength (value xs) < 64
+      → bitXor high s * 4294967296 + bitXor low s ≡ mag (value xs)
+  two-limbs low high p q l =
+      ap₂ (λ (m n : ℕ). m * 4294967296 + n) (flipped high 32 q) (flipped low 0 p) ∙ joined (mag (value xs)) (mag-lt (value xs) 63 (omega arith))
 
-  limb : getD xs j 0 ≡ bitsFrom (value xs) (32 * j)
-  limb = limb-value xs j b h
+  module _ (j : ℕ) (b : (i : ℕ) → getD xs i 0 < 2 ^ 32) (l : j < length xs) where
+    limb : getD xs j 0 ≡ bitsFrom (value xs) (32 * j)
+    limb = limb-value xs j b l
 
-  pub onesOf-more : {n r : ℕ} → n ≡ onesOf xs j → r ≡ ones (bitXor (getD xs j 0) s) → n + r ≡ onesOf xs (j + 1)
-  onesOf-more p q =
-      let next : 32 * j + 32 ≡ 32 * (j + 1) = omega arith in
-      ap₂ _+_ p (q ∙ ap ones (ap₂ bitXor limb e ∙ limb-mag (value xs) (32 * j) (32 * length xs) length-limbs))
-      ∙ ones-limb (mag (value xs)) (32 * j)
-      ∙ ap (λ (k : ℕ). onesBelow k (testbit (pos (mag (value xs))))) next
+    -- the ones of one limb more
+    pub onesOf-more : {n r : ℕ} → n ≡ onesOf xs j → r ≡ ones (bitXor (getD xs j 0) s) → n + r ≡ onesOf xs (j + 1)
+    onesOf-more p q =
+        let next : 32 * j + 32 ≡ 32 * (j + 1) = omega arith in
+        ap₂ _+_ p (q ∙ ap ones (flipped (getD xs j 0) (32 * j) limb))
+        ∙ ones-limb (mag (value xs)) (32 * j)
+        ∙ ap (λ (k : ℕ). onesBelow k (testbit (pos (mag (value xs))))) next
 
-  -- a limb that is what continues the operand can go
-  pub length-without : bitLength (value xs) ≤ 32 * j + 32 → getD xs j 0 ≡ s → bitLength (value xs) ≤ 32 * j
-  length-without g q = length-below (value xs) (32 * j) (32 * length xs) g length-limbs (sym limb ∙ q ∙ e)
+    -- a limb that is what continues the operand can go
+    pub length-without : bitLength (value xs) ≤ 32 * j + 32 → getD xs j 0 ≡ s → bitLength (value xs) ≤ 32 * j
+    length-without g q = length-below (value xs) (32 * j) (32 * length xs) g long (sym limb ∙ q ∙ e)
 
-  pub length-with : {r : ℕ} → bitLength (value xs) ≤ 32 * j + 32 → (getD xs j 0 ≡ s → ⊥) → r ≡ bitLength (pos (bitXor (getD xs j 0) s))
-      → 32 * j + r ≡ bitLength (value xs)
-  length-with g q p =
-      ap (λ (r : ℕ). 32 * j + r) p
-      ∙ ap₂ (λ (m n : ℕ). 32 * j + bitLength (pos (bitXor m n))) limb e
-      ∙ length-limb (value xs) (32 * j) (32 * length xs) g length-limbs (λ w. q (limb ∙ w ∙ sym e))
+    -- the highest limb that is not gives the length
+    pub length-with : {r : ℕ} → bitLength (value xs) ≤ 32 * j + 32 → (getD xs j 0 ≡ s → ⊥) → r ≡ bitLength (pos (bitXor (getD xs j 0) s))
+        → 32 * j + r ≡ bitLength (value xs)
+    length-with g q p =
+        ap (λ (r : ℕ). 32 * j + r) (p ∙ ap (λ (n : ℕ). bitLength (pos n)) (flipped (getD xs j 0) (32 * j) limb))
+        ∙ length-limb (value xs) (32 * j) (32 * length xs) g long (λ w. q (limb ∙ w ∙ sym e))

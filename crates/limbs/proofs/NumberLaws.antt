@@ -1,5 +1,5 @@
 -- The stages of a call that answers a number: an operand that is legal or not, a position, and what fits one word. Assumes nothing.
-use Prim.Native.Nat.{ℕ, zero-le, _+_, _%_, _^_, _≤_, _<_}
+use Prim.Native.Nat.{ℕ, zero-le, _%_, _^_, _≤_, _<_}
 use native.Mathlib.Nat.{add-zero}
 use native.Mathlib.Omega.{arith}
 use mathlib.Core.Path.{_≡_, refl, sym, ap, _∙_, subst}
@@ -17,10 +17,10 @@ use Rattle.bits.proofs.FitsLaws.{is-true}
 use Rattle.bits.proofs.Digitwise.{digit-testbit}
 use Rattle.limbs.specs.declared.Number.{Number}
 use Rattle.limbs.specs.Value.{bitsFrom}
-use Rattle.limbs.specs.Buffer.{Outcome, refused, integer, unless, number}
+use Rattle.limbs.specs.Buffer.{Outcome, refused, integer, number}
 use Rattle.limbs.specs.Operations.{mostLimbs, isOperand, operand}
 use Rattle.limbs.proofs.LimbLaws.{testbit-bitsFrom}
-use Rattle.limbs.proofs.OutcomeLaws.{passed, failed, operand-passed, operand-failed, operand-length}
+use Rattle.limbs.proofs.OutcomeLaws.{operand-passed, operand-failed, operand-length}
 
 -- ---- the operand
 
@@ -40,33 +40,30 @@ module _ (xs : List ℕ) {t : Bool} (e : t ≡ isOperand xs) (n : not t ≡ fals
   as-outcome : {o p : Outcome} {r : Number} → o ≡ p → r ≡ number p → r ≡ number (operand xs o)
   as-outcome {o} f q = q ∙ sym (ap number (operand-passed xs o legal ∙ f))
 
+  -- a later refusal
   pub refused-number : {o : Outcome} {k : ℕ} {r : Number} → o ≡ refused k → r ≡ number (refused k) → r ≡ number (operand xs o)
   refused-number = as-outcome
 
+  -- an integer, which the call has as v
   pub answered : {o : Outcome} {v z : ℤ} {r : Number} → o ≡ integer z → r ≡ number (integer v) → v ≡ z → r ≡ number (operand xs o)
   answered f q e = as-outcome f (q ∙ ap (λ (v : ℤ). number (integer v)) e)
 
--- ---- a position, as the code tests it: its bits, read as signed, are the number
+-- ---- a position, from the number q that its bits are, read as signed
 
-below-zero : (k : ℤ) → leZ (pos 0) k ≡ not (ltZ k (pos 0))
-below-zero (pos n) = le-leb 0 n zero-le ∙ sym (ap not (le-ltb n 0 zero-le))
-below-zero (negsuc n) = refl
+not-below : (k : ℤ) → leZ (pos 0) k ≡ not (ltZ k (pos 0))
+not-below (pos n) = le-leb 0 n zero-le ∙ sym (ap not (le-ltb n 0 zero-le))
+not-below (negsuc n) = refl
 
 natural : (k : ℤ) → mag k < 2 ^ 63 → ltZ k (pos 0) ≡ false → T (nonNeg k) × (natAbs k < 2 ^ 63)
 natural (pos n) h e = (tt, h)
 natural (negsuc n) h e = absurd (true≢false e)
 
 module _ (k : ℤ) {q : ℤ} (e : q ≡ k) where
-  tested : leZ (pos 0) k ≡ not (ltZ q (pos 0))
-  tested = below-zero k ∙ ap (λ (y : ℤ). not (ltZ y (pos 0))) (sym e)
+  -- the code's test is that of the domain
+  pub position-tested : leZ (pos 0) k ≡ not (ltZ q (pos 0))
+  position-tested = not-below k ∙ ap (λ (y : ℤ). not (ltZ y (pos 0))) (sym e)
 
-  pub position-refused : (o : Outcome) → ltZ q (pos 0) ≡ true → unless (leZ (pos 0) k) 5 o ≡ refused 5
-  position-refused o t = failed (leZ (pos 0) k) 5 o (tested ∙ ap not t)
-
-  pub position-passed : (o : Outcome) → ltZ q (pos 0) ≡ false → unless (leZ (pos 0) k) 5 o ≡ o
-  position-passed o t = passed (leZ (pos 0) k) 5 o (tested ∙ ap not t)
-
-  -- what the cast of a position asks, and what the number is then
+  -- what the cast to an unsigned word asks, and what it gives
   pub position-natural : mag k < 2 ^ 63 → ltZ q (pos 0) ≡ false → T (nonNeg q) × (natAbs q < 2 ^ 63)
   position-natural h t =
       subst (λ (y : ℤ). T (nonNeg y) × (natAbs y < 2 ^ 63)) (sym e) (natural k h (ap (λ (y : ℤ). ltZ y (pos 0)) (sym e) ∙ t))
@@ -85,6 +82,7 @@ bit-from z at r e =
 
 -- ---- one word
 
+-- a length below 64 is that of a word, and no other
 pub fits-word : (z : ℤ) → bitLength z < 64 → fits 64 z ≡ true
 fits-word z h = is-true (fits-length 64 z (lit< tt) .1 h)
 

@@ -8,28 +8,22 @@ use Rattle.limbs.proofs.NumberLaws.{refused-operand, operand-lengths, a
 use Rattle.limbs.proofs.bitwise_bit_count.Statement.{statement}
 use Rattle.limbs.proofs.bitwise_bit_count.Tie as tie
 
--- src/lib.rt:100:9
 is-operand-requires : tie.Need-is-operand-requires
 is-operand-requires c κs = search needs
 
--- src/lib.rt:101:9
 refuse-number-requires : tie.Need-refuse-number-requires
 refuse-number-requires c κs = search needs
 
--- src/lib.rt:101:9
 returns : tie.Need-returns
 unfolding bitCountOutcome
 returns c = refused-operand _ _ (c .before .before .is-operand .ensures) (c .before .if1 .taken) (c .refuse-number .ensures)
 
--- src/lib.rt:103:10
 bit-count-requires : tie.Need-bit-count-requires
 bit-count-requires c κs = operand-lengths _ (c .before .is-operand .ensures) (c .if1 .left)
 
--- src/lib.rt:103:5
 done-requires : tie.Need-done-requires
 done-requires c κs = search needs
 
--- src/lib.rt:97:1
 returns-2 : tie.Need-returns-2
 unfolding bitCountOutcome
 returns-2 c =

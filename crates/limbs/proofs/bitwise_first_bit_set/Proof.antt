@@ -8,28 +8,22 @@ use Rattle.limbs.proofs.NumberLaws.{refused-operand, operand-lengths, a
 use Rattle.limbs.proofs.bitwise_first_bit_set.Statement.{statement}
 use Rattle.limbs.proofs.bitwise_first_bit_set.Tie as tie
 
--- src/lib.rt:120:9
 is-operand-requires : tie.Need-is-operand-requires
 is-operand-requires c κs = search needs
 
--- src/lib.rt:121:9
 refuse-number-requires : tie.Need-refuse-number-requires
 refuse-number-requires c κs = search needs
 
--- src/lib.rt:121:9
 returns : tie.Need-returns
 unfolding firstBitSetOutcome
 returns c = refused-operand _ _ (c .before .before .is-operand .ensures) (c .before .if1 .taken) (c .refuse-number .ensures)
 
--- src/lib.rt:123:10
 first-bit-set-requires : tie.Need-first-bit-set-requires
 first-bit-set-requires c κs = operand-lengths _ (c .before .is-operand .ensures) (c .if1 .left)
 
--- src/lib.rt:123:5
 done-requires : tie.Need-done-requires
 done-requires c κs = search needs
 
--- src/lib.rt:117:1
 returns-2 : tie.Need-returns-2
 unfolding firstBitSetOutcome
 returns-2 c =

@@ -11,35 +11,28 @@ use Rattle.limbs.proofs.NumberLaws.{refused-operand, operand-lengths, a
 use Rattle.limbs.proofs.bitwise_length.Statement.{statement}
 use Rattle.limbs.proofs.bitwise_length.Tie as tie
 
--- src/lib.rt:110:9
 is-operand-requires : tie.Need-is-operand-requires
 is-operand-requires c κs = search needs
 
--- src/lib.rt:111:9
 refuse-number-requires : tie.Need-refuse-number-requires
 refuse-number-requires c κs = search needs
 
--- src/lib.rt:111:9
 returns : tie.Need-returns
 unfolding lengthOutcome
 returns c = refused-operand _ _ (c .before .before .is-operand .ensures) (c .before .if1 .taken) (c .refuse-number .ensures)
 
--- src/lib.rt:113:10
 bit-length-requires : tie.Need-bit-length-requires
 bit-length-requires c κs = operand-lengths _ (c .before .is-operand .ensures) (c .if1 .left)
 
--- src/lib.rt:113:10
 cast-done : tie.Need-cast-done
 cast-done c =
     let e = c .before in
     let (positive, most) = operand-lengths _ (e .before .is-operand .ensures) (e .if1 .left) in
     record { sfits = omega (arith, c .bit-length .ensures, value-length (e .before .before .before .args .x .now) positive) }
 
--- src/lib.rt:113:5
 done-requires : tie.Need-done-requires
 done-requires c κs = search needs
 
--- src/lib.rt:107:1
 returns-2 : tie.Need-returns-2
 unfolding lengthOutcome
 returns-2 c =

@@ -1,6 +1,6 @@
 -- `limbs::to_word` meets its contract. Assumes nothing.
 use native.Mathlib.Omega.{arith}
-use mathlib.Core.Path.{_≡_, refl, sym, ap, subst, _∙_}
+use mathlib.Core.Path.{_∙_}
 use mir.Syntax.{w64}
 use mir.ValLaws.{toZ-ofZ}
 use borrow.Author.Needs.{needs}
@@ -10,45 +10,36 @@ use Rattle.limbs.proofs.NumberLaws.{refused-operand, operand-lengths, r
 use Rattle.limbs.proofs.to_word.Statement.{statement}
 use Rattle.limbs.proofs.to_word.Tie as tie
 
--- src/lib.rt:143:9
 is-operand-requires : tie.Need-is-operand-requires
 is-operand-requires c κs = search needs
 
--- src/lib.rt:144:9
 refuse-number-requires : tie.Need-refuse-number-requires
 refuse-number-requires c κs = search needs
 
--- src/lib.rt:144:9
 returns : tie.Need-returns
 unfolding wordOutcome
 returns c = refused-operand _ _ (c .before .before .is-operand .ensures) (c .before .if1 .taken) (c .refuse-number .ensures)
 
--- src/lib.rt:146:14
 bit-length-requires : tie.Need-bit-length-requires
 bit-length-requires c κs = operand-lengths _ (c .before .is-operand .ensures) (c .if1 .left)
 
--- src/lib.rt:147:9
 refuse-number-requires-2 : tie.Need-refuse-number-requires-2
 refuse-number-requires-2 c κs = search needs
 
--- src/lib.rt:147:9
 returns-2 : tie.Need-returns-2
 unfolding wordOutcome
 returns-2 c =
     let e = c .before .before .before in
     refused-number _ (e .before .is-operand .ensures) (e .if1 .left) (failed _ _ _ (exceeds-word _ (omega (arith, c .before .before .bit-length .ensures)))) (c .refuse-number2 .ensures)
 
--- src/lib.rt:149:10
 word-requires : tie.Need-word-requires
 word-requires c κs =
     let e = c .before .before in
     (operand-lengths _ (e .before .is-operand .ensures) (e .if1 .left) .0, omega (arith, c .before .bit-length .ensures))
 
--- src/lib.rt:149:5
 done-requires : tie.Need-done-requires
 done-requires c κs = search needs
 
--- src/lib.rt:140:1
 returns-3 : tie.Need-returns-3
 unfolding wordOutcome
 returns-3 c =

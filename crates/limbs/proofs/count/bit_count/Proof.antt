@@ -1,17 +1,12 @@
 -- `limbs::count::bit_count` meets its contract. The invariant: n is the ones of the first j limbs of the magnitude. Assumes nothing.
-use Prim.Native.Nat.{ℕ, _+_, _*_, _-_, _≤_}
+use Prim.Native.Nat.{_+_, _-_, _≤_}
 use native.Mathlib.Omega.{arith}
-use mathlib.Core.Path.{_≡_, refl, sym, ap, ap₂, _∙_}
-use lib.IntN.{pos}
+use mathlib.Core.Path.{_≡_, refl, ap, _∙_}
 use lib.ListN.{length}
-use lib.Signed.{mag}
 use mir.Syntax.{w64}
 use mir.ValLaws.{toZ-ofZ}
 use borrow.Author.Needs.{needs}
-use Rattle.bits.specs.Testbit.{testbit}
 use Rattle.bits.specs.Count.{onesBelow}
-use Rattle.bits.proofs.CountLaws.{onesBelow-le}
-use Rattle.limbs.specs.Value.{value}
 use Rattle.limbs.proofs.CountLimbs.{onesOf, onesOf-all, onesOf-le, onesOf-more}
 use Rattle.limbs.proofs.count.bit_count.Statement.{statement}
 use Rattle.limbs.proofs.count.bit_count.Tie as tie
@@ -22,24 +17,19 @@ Inv-loop x sign n₀ j₀ n j = (n ≡ onesOf x j) × (j ≤ length x)
 abbrev μ-loop : tie.MeasureT-loop
 μ-loop x sign n₀ j₀ n j = length x - j
 
--- src/count.rt:37:9
 padding-requires : tie.Need-padding-requires Inv-loop μ-loop
 padding-requires c κs = c .before .pre .0
 
--- src/count.rt:40:5
 loop-holds : tie.Need-loop-holds Inv-loop μ-loop
 unfolding onesBelow
 loop-holds c = (refl, omega arith)
 
--- src/count.rt:41:22
 mul-ones-of : tie.Need-mul-ones-of Inv-loop μ-loop
 mul-ones-of c = omega arith
 
--- src/count.rt:41:22
 shared-slice-read-ones-of : tie.Need-shared-slice-read-ones-of Inv-loop μ-loop
 shared-slice-read-ones-of c = omega arith
 
--- src/count.rt:41:14
 ones-of-requires : tie.Need-ones-of-requires Inv-loop μ-loop
 ones-of-requires c κs = search needs
 
@@ -48,31 +38,26 @@ next : (c : tie.After-ones-of Inv-loop μ-loop) → let l = c .before .before .b
     l .n + c .ones-of .result ≡ onesOf (c .before .before .before .before .before .before .args .x .now) (l .j + 1)
 next c =
     let l = c .before .before .before in
-    onesOf-more _ _ _ (λ i. c .before .shared-slice-known2 .given i .fits) (l .before .padding .ensures) (c .before .before .loop-test .taken) (l .loop .inv .0) (c .ones-of .ensures)
+    onesOf-more _ _ (l .before .padding .ensures) (l .before .before .before .pre .0) _ (λ i. c .before .shared-slice-known2 .given i .fits) (c .before .before .loop-test .taken) (l .loop .inv .0) (c .ones-of .ensures)
 
 add-n : tie.Need-add-n Inv-loop μ-loop
 add-n c =
     let l = c .before .before .before in
     omega (arith, next c, onesOf-le (l .before .before .before .args .x .now) (l .loop .j + 1))
 
--- src/count.rt:42:9
 add-j : tie.Need-add-j Inv-loop μ-loop
 add-j c = omega arith
 
--- src/count.rt:40:5
 loop-less : tie.Need-loop-less Inv-loop μ-loop
 loop-less c = omega arith
 
--- src/count.rt:40:5
 loop-again : tie.Need-loop-again Inv-loop μ-loop
 loop-again c = (next c, omega arith)
 
--- src/count.rt:44:5
 from-magnitude-requires : tie.Need-from-magnitude-requires Inv-loop μ-loop
 from-magnitude-requires c κs =
     omega (arith, c .before .loop .inv .0, onesOf-le (c .before .before .before .before .args .x .now) (c .before .loop .j))
 
--- src/count.rt:33:1
 returns : tie.Need-returns Inv-loop μ-loop
 returns c =
     let a = c .before .before .before .before .before in

@@ -1,7 +1,7 @@
 -- `limbs::count::first_bit_set` meets its contract. The invariants: no bit below limb j is 1, and none below bit i of it. Assumes nothing.
-use Prim.Native.Nat.{ℕ, _+_, _*_, _-_, _≤_}
+use Prim.Native.Nat.{_+_, _*_, _-_, _≤_}
 use native.Mathlib.Omega.{arith}
-use mathlib.Core.Path.{_≡_, sym, ap, _∙_, subst}
+use mathlib.Core.Path.{_∙_}
 use lib.ListN.{length}
 use mir.Syntax.{w64}
 use mir.ValLaws.{toZ-pos}
@@ -23,76 +23,59 @@ Inv-limbs x j₀ j = NoneBelow (value x) (32 * j) × (j ≤ length x)
 abbrev μ-limbs : tie.MeasureT-limbs
 μ-limbs x j₀ j = length x - j
 
--- src/count.rt:70:5
 limbs-holds : tie.Need-limbs-holds Inv-loop μ-loop Inv-limbs μ-limbs
 limbs-holds c = (λ i h. absurd (omega arith), omega arith)
 
--- src/count.rt:75:9
 loop-holds : tie.Need-loop-holds Inv-loop μ-loop Inv-limbs μ-limbs
 loop-holds c = (λ i h. c .before .limbs .inv .0 i (omega arith), omega arith)
 
--- src/count.rt:76:17
 mul-if2 : tie.Need-mul-if2 Inv-loop μ-loop Inv-limbs μ-limbs
 mul-if2 c = omega arith
 
--- src/count.rt:76:17
 shared-slice-read-if2 : tie.Need-shared-slice-read-if2 Inv-loop μ-loop Inv-limbs μ-limbs
 shared-slice-read-if2 c = omega arith
 
--- src/count.rt:76:25
 cast-if2 : tie.Need-cast-if2 Inv-loop μ-loop Inv-limbs μ-limbs
 cast-if2 c = record { fits = omega arith }
 
--- src/count.rt:76:17
 shr-if2 : tie.Need-shr-if2 Inv-loop μ-loop Inv-limbs μ-limbs
 shr-if2 c = omega arith
 
--- src/count.rt:77:31
 mul-result : tie.Need-mul-result Inv-loop μ-loop Inv-limbs μ-limbs
 mul-result c = omega arith
 
--- src/count.rt:77:31
 add-result : tie.Need-add-result Inv-loop μ-loop Inv-limbs μ-limbs
 add-result c = omega arith
 
--- src/count.rt:77:30
 cast-result : tie.Need-cast-result Inv-loop μ-loop Inv-limbs μ-limbs
 cast-result c = record { sfits = omega arith }
 
--- src/count.rt:79:13
 add-i : tie.Need-add-i Inv-loop μ-loop Inv-limbs μ-limbs
 add-i c = omega arith
 
--- src/count.rt:75:9
 loop-less : tie.Need-loop-less Inv-loop μ-loop Inv-limbs μ-limbs
 loop-less c = omega arith
 
--- src/count.rt:75:9
 loop-again : tie.Need-loop-again Inv-loop μ-loop Inv-limbs μ-limbs
 loop-again c =
     let l = c .before .before .before in
     (none-here _ _ _ (omega arith) (omega arith) (l .loop .inv .0) (c .if2 .left), omega arith)
 
--- src/count.rt:81:9
 add-j : tie.Need-add-j Inv-loop μ-loop Inv-limbs μ-limbs
 add-j c = omega arith
 
--- src/count.rt:70:5
 limbs-less : tie.Need-limbs-less Inv-loop μ-loop Inv-limbs μ-limbs
 limbs-less c = omega arith
 
--- src/count.rt:70:5
 limbs-again : tie.Need-limbs-again Inv-loop μ-loop Inv-limbs μ-limbs
 limbs-again c = (λ i h. c .before .loop .inv .0 i (omega arith), omega arith)
 
--- src/count.rt:65:1
 returns : tie.Need-returns Inv-loop μ-loop Inv-limbs μ-limbs
 returns c =
     let xs = c .before .before .args .x .now in
     let l = c .before .limbs in
     none-firstBitSet (value xs) (32 * l .j) (omega (arith, value-length xs (c .before .before .pre .0), c .if1 .taken)) (l .inv .0)
 
--- src/count.rt:65:1
 returns-2 : tie.Need-returns-2 Inv-loop μ-loop Inv-limbs μ-limbs
 returns-2 c =
     let l = c .before .before .before in

@@ -1,7 +1,7 @@
 -- `limbs::signed::word` meets its contract. Assumes nothing.
 use Prim.Native.Nat.{_+_, _*_, _^_, _<_}
 use native.Mathlib.Omega.{arith}
-use mathlib.Core.Path.{_≡_, ap, ap₂, _∙_}
+use mathlib.Core.Path.{_≡_, ap₂, _∙_}
 use lib.Bits.{bitXor, xor-lt}
 use lib.Signed.{mag}
 use mir.Syntax.{w64}
@@ -15,23 +15,18 @@ use Rattle.limbs.proofs.CountLimbs.{operand-sign, two-limbs}
 use Rattle.limbs.proofs.signed.word.Statement.{statement}
 use Rattle.limbs.proofs.signed.word.Tie as tie
 
--- src/signed.rt:25:9
 padding-requires : tie.Need-padding-requires
 padding-requires c κs = search needs
 
--- src/signed.rt:26:16
 limb-requires : tie.Need-limb-requires
 limb-requires c κs = search needs
 
--- src/signed.rt:26:15
 cast-low : tie.Need-cast-low
 cast-low c = record { fits = omega (arith, xor-lt 32 (c .limb .result) (c .before .padding .result) (c .limb .ok) (c .before .padding .ok)) }
 
--- src/signed.rt:27:17
 limb-requires-2 : tie.Need-limb-requires-2
 limb-requires-2 c κs = search needs
 
--- src/signed.rt:27:16
 cast-high : tie.Need-cast-high
 cast-high c = record { fits = omega (arith, xor-lt 32 (c .limb2 .result) (c .before .before .padding .result) (c .limb2 .ok) (c .before .before .padding .ok)) }
 
@@ -48,15 +43,12 @@ below c = let a = c .before .before .before .before in mag-lt (value (a .args .x
 mul-from-magnitude : tie.Need-mul-from-magnitude
 mul-from-magnitude c = omega (arith, joined c, below c)
 
--- src/signed.rt:28:31
 add-from-magnitude : tie.Need-add-from-magnitude
 add-from-magnitude c = omega (arith, joined c, below c)
 
--- src/signed.rt:28:5
 from-magnitude-requires : tie.Need-from-magnitude-requires
 from-magnitude-requires c κs = omega (arith, joined c, below c)
 
--- src/signed.rt:21:1
 returns : tie.Need-returns
 returns c =
     let a = c .before .before .before .before .before in
