@@ -12,7 +12,7 @@ use Rattle.bits.specs.Testbit.{isNegative, testbit, bitLength}
 use Rattle.bits.specs.Logical.{bitwiseNot}
 use Rattle.bits.specs.Field.{permuteField}
 use Rattle.bits.specs.Count.{onesBelow, ones, bitCount, firstTrue, firstBitSet}
-use Rattle.bits.proofs.TestbitLaws.{by-lt, testbit-ext, testbit-zero, testbit-above}
+use Rattle.bits.proofs.TestbitLaws.{by-lt, cond-lt, testbit-ext, testbit-zero, testbit-above}
 use Rattle.bits.proofs.FieldLaws.{inField-lt, inField-ge, testbit-permuteField-in, testbit-permuteField-out, isNegative-permuteField}
 use Rattle.bits.proofs.FieldAlgebra.{permuteField-not}
 
@@ -36,6 +36,11 @@ pub onesBelow-split : (j k : ℕ) (f : ℕ → Bool) → onesBelow (j + k) f ≡
 unfolding onesBelow
 onesBelow-split j zero f = rw (add-zero j) (omega arith)
 onesBelow-split j (suc k) f = rw add-suc (omega (arith, onesBelow-split j k f))
+
+pub onesBelow-le : (k : ℕ) (f : ℕ → Bool) → onesBelow k f ≤ k
+unfolding onesBelow
+onesBelow-le zero f = omega arith
+onesBelow-le (suc k) f = omega (arith, onesBelow-le k f, cond-lt (f k) 1 0 (omega arith) (omega arith))
 
 -- f without its one at a
 without : (ℕ → Bool) → ℕ → ℕ → Bool

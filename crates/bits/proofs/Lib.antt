@@ -3,6 +3,7 @@ pub mod Booleans
 pub mod IntegerLaws
 pub mod TestbitLaws
 pub mod LengthLaws
+pub mod MagnitudeLaws
 pub mod LogicalLaws
 pub mod Algebra
 pub mod ArgumentLaws
@@ -18,6 +19,7 @@ pub mod FieldWords
 pub mod RotateWords
 pub mod Locality
 pub mod CountLaws
+pub mod CountWords
 pub mod ListTheorem
 pub mod FitsLaws
 pub mod WordLaws

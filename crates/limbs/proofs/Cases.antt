@@ -5,7 +5,7 @@ use mathlib.Core.List.{List, [], _∷_}
 use Prim.Native.Nat.{ℕ}
 use lib.IntN.{pos, negsuc}
 use lib.ListN.{length}
-use Rattle.bits.specs.Testbit.{odd, testbit, halvings, bitLength, consBit, ofBits, isNegative, fill}
+use Rattle.bits.specs.Testbit.{odd, testbit, halvings, bitLength, consBit, ofBits, isNegative, fits, fill}
 use Rattle.bits.specs.Logical.{bitwiseNot, bitwise}
 use Rattle.bits.specs.Shift.{floorDiv, shiftLeft, shiftRight, arithmeticShift}
 use Rattle.bits.specs.Division.{modℕ, «mod»}
@@ -13,9 +13,9 @@ use Rattle.bits.specs.Field.{inField, setField, permuteField, rotateIndex, reve
 use Rattle.bits.specs.FieldList.{rotate, reverse, countCall, netCountFrom, netCount}
 use Rattle.bits.specs.Count.{onesBelow, ones, bitCount, firstTrue, firstBitSet}
 use Rattle.limbs.specs.Value.{onTop, value, limbsOf, limbCount, shortest}
-use Rattle.limbs.specs.Buffer.{Outcome, refused, integer, unless, room, laid, fitsIn, refusal, written, afterwards}
+use Rattle.limbs.specs.Buffer.{Outcome, refused, integer, unless, room, laid, fitsIn, refusal, written, afterwards, number}
 use Rattle.bits.specs.Range.{within}
-use Rattle.limbs.specs.Operations.{mostLimbs, isOperand, operand, field, sized, notOutcome, bitwiseOutcome, shiftOutcome, rotateOutcome, reverseOutcome, bitCountOutcome, lengthOutcome, firstBitSetOutcome}
+use Rattle.limbs.specs.Operations.{mostLimbs, isOperand, operand, field, sized, notOutcome, bitwiseOutcome, shiftOutcome, rotateOutcome, reverseOutcome, bitCountOutcome, lengthOutcome, firstBitSetOutcome, bitSetOutcome, wordOutcome}
 use Rattle.limbs.specs.Lists.{Step, callsOf, outcomeOf, answerOf, handOn, hasRoom, runSteps, isDone}
 
 -- a buffer of two limbs after a call that writes from its start
@@ -83,3 +83,18 @@ unfolding odd testbit halvings bitLength consBit ofBits isNegative fill floorDiv
     reverseIndex rotateBitField reverseBitField onTop value limbsOf limbCount shortest unless room laid fitsIn refusal written afterwards mostLimbs
     isOperand operand within field rotateOutcome reverseOutcome callsOf outcomeOf answerOf handOn hasRoom runSteps isDone countCall netCountFrom netCount
 cases-list = (refl, refl, refl, refl)
+
+-- an operand of no limb; a position below 0, and one beyond the limbs; the least and the greatest word, and one more
+pub cases-numbers :
+    (number (bitCountOutcome []) ≡ record { refusal = 7; value = pos 0 })
+    × (number (firstBitSetOutcome (0 ∷ 4 ∷ [])) ≡ record { refusal = 0; value = pos 34 })
+    × (bitSetOutcome [] (negsuc 0) ≡ refused 7)
+    × (bitSetOutcome (0xFFFFFFFC ∷ []) (negsuc 0) ≡ refused 5)
+    × (bitSetOutcome (0xFFFFFFFC ∷ []) (pos 1) ≡ integer (pos 0))
+    × (bitSetOutcome (0xFFFFFFFC ∷ []) (pos 40) ≡ integer (pos 1))
+    × (wordOutcome (0 ∷ 0x80000000 ∷ []) ≡ integer (negsuc 0x7FFFFFFFFFFFFFFF))
+    × (wordOutcome (0xFFFFFFFF ∷ 0x7FFFFFFF ∷ []) ≡ integer (pos 0x7FFFFFFFFFFFFFFF))
+    × (wordOutcome (0 ∷ 0x80000000 ∷ 0 ∷ []) ≡ refused 6)
+unfolding odd testbit halvings bitLength consBit ofBits isNegative fill fits onesBelow ones bitCount firstTrue firstBitSet onTop value
+    unless number mostLimbs isOperand operand bitCountOutcome firstBitSetOutcome bitSetOutcome wordOutcome
+cases-numbers = (refl, refl, refl, refl, refl, refl, refl, refl, refl)

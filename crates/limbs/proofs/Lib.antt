@@ -9,6 +9,8 @@ pub mod LogicalLaws
 pub mod SpliceLaws
 pub mod FieldLimbs
 pub mod SegmentLaws
+pub mod CountLimbs
 pub mod OutcomeLaws
+pub mod NumberLaws
 pub mod Demand3
 pub mod Cases

@@ -11,7 +11,7 @@ use lib.Dec.{leb}
 use lib.IntN.{ℤ, pos, natAbs}
 use lib.ListN.{length}
 use lib.Signed.{leZ}
-use Rattle.bits.specs.Testbit.{testbit, bitLength}
+use Rattle.bits.specs.Testbit.{testbit, bitLength, fits}
 use Rattle.bits.specs.Logical.{bitwiseNot, bitwise, bitwiseIf}
 use Rattle.bits.specs.Count.{bitCount, firstBitSet}
 use Rattle.bits.specs.Shift.{arithmeticShift, shiftLeft, shiftRight}
@@ -92,3 +92,7 @@ firstBitSetOutcome x = operand x (integer (firstBitSet (value x)))
 
 unfoldable pub bitSetOutcome : List ℕ → ℤ → Outcome
 bitSetOutcome x k = operand x (unless (leZ (pos 0) k) 5 (integer (cond (testbit (value x) (natAbs k)) (pos 1) (pos 0))))
+
+-- the integer as one signed 64-bit word
+unfoldable pub wordOutcome : List ℕ → Outcome
+wordOutcome x = operand x (unless (fits 64 (value x)) 6 (integer (value x)))

@@ -1,7 +1,7 @@
 // What is decided before a result is measured: refusals 7 and 5, by their numbers; 0 where there is none.
 ghost use mathlib.Core.Path.{_≡_};
-ghost use mathlib.Core.Bool.{true};
-ghost use lib.IntN.{pos, natAbs};
+ghost use mathlib.Core.Bool.{true, false};
+ghost use lib.IntN.{pos, negsuc, natAbs};
 ghost use lib.Signed.{leZ};
 ghost use Rattle.bits.specs.Range as range;
 ghost use Rattle.limbs.specs.Buffer.{Outcome, unless, Decides};
@@ -57,6 +57,17 @@ pub fn check_field(x: &[u32], y: &[u32], start: i64, end: i64) -> u64
     if is_field(start, end) { 0 } else { 5 }
 }
 
+// An operand, a field and a count that may not be negative.
+pub fn check_rotation(x: &[u32], start: i64, end: i64, count: i64) -> u64
+    ensures { λ r. ⌜ Decides (λ o. operand (now (x .entry)) (field start end (unless (leZ (pos 0) count) 5 o))) r ⌝ }
+{
+    let refusal = check_field(x, x, start, end);
+    if refusal != 0 {
+        return refusal;
+    }
+    if 0 <= count { 0 } else { 5 }
+}
+
 // An operand, a position and a new bit.
 pub fn check_bit(x: &[u32], k: i64, bit: i64) -> u64
     ensures { λ r. ⌜ Decides (λ o. operand (now (x .entry)) (unless (range.within (pos 0) k (pos 32766)) 5 (unless (range.within (pos 0) bit (pos 1)) 5 o))) r ⌝ }
@@ -86,4 +97,12 @@ pub fn natural(n: i64) -> u64
     ensures { λ r. ⌜ r ≡ natAbs n ⌝ }
 {
     n as u64
+}
+
+// For a negative number, -(n + 1). There is one for -2^63 too.
+pub fn complement(n: i64) -> u64
+    requires { ⌜ leZ (pos 0) n ≡ false ⌝ }
+    ensures { λ r. ⌜ n ≡ negsuc r ⌝ }
+{
+    (!n) as u64
 }

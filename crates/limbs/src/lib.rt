@@ -4,11 +4,13 @@
 // shortest limbs of the result from there on, and changes no other limb. Refusals, in this order: 7 for an operand of no limb or of
 // more than 1,024, 5 for a number outside its domain, 6 for a result of more than 1,024 limbs, 8 for a buffer that is too short.
 // A refused call changes nothing.
+ghost use mathlib.Core.Path.{_≡_};
 ghost use mathlib.Core.Bool.{_&&_, _||_, xor};
-ghost use Rattle.limbs.specs.Buffer.{Writes};
-ghost use Rattle.limbs.specs.Operations.{notOutcome, bitwiseOutcome, ifOutcome};
+ghost use Rattle.limbs.specs.Buffer.{Writes, number};
+ghost use Rattle.limbs.specs.Operations.{notOutcome, bitwiseOutcome, ifOutcome, copyBitOutcome, bitFieldOutcome, copyBitFieldOutcome, shiftOutcome, shiftLeftOutcome, shiftRightOutcome, rotateOutcome, reverseOutcome, bitCountOutcome, lengthOutcome, firstBitSetOutcome, bitSetOutcome, wordOutcome};
 
 mod check;
+mod count;
 mod field;
 mod index;
 mod limb;
@@ -20,16 +22,37 @@ mod reverse;
 mod run;
 mod segment;
 mod shift;
+mod signed;
 mod splice;
 mod write;
 
+use check::check_bit;
+use check::check_count;
+use check::check_field;
+use check::check_operands;
+use check::check_rotation;
+use check::complement;
 use check::is_operand;
+use check::natural;
+use count::bit_count;
+use count::bit_length;
+use count::first_bit_set;
 use index::most;
+use limb::window;
 use operand::combine_operands;
+use operand::copy_field;
+use operand::move_left;
+use operand::move_right;
+use operand::reverse_field;
+use operand::rotate_field;
+use operand::take_field;
 use result::Logic;
 use result::Operation;
 use run::refuse;
 use run::run;
+use signed::done;
+use signed::refuse_number;
+use signed::word;
 
 // What a call answers that writes an integer: a refusal number, 0 for done, and how many limbs it has written.
 pub struct Written {
@@ -47,8 +70,9 @@ pub struct Number {
 pub fn bitwise_not(x: &[u32], out: &mut [u32], first: u64) -> Written
     ensures { λ r. ⌜ Writes (notOutcome (now (x .entry))) (now (out .entry)) first r (now (out .exit)) ⌝ }
 {
-    if !is_operand(x) {
-        return refuse(7);
+    let refusal = check_operands(x, x, x);
+    if refusal != 0 {
+        return refuse(refusal);
     }
     run(Operation::Not, x, x, x, x.len(), out, first)
 }
@@ -78,15 +102,180 @@ pub fn bitwise_xor(x: &[u32], y: &[u32], out: &mut [u32], first: u64) -> Written
 pub fn bitwise_if(x: &[u32], y: &[u32], z: &[u32], out: &mut [u32], first: u64) -> Written
     ensures { λ r. ⌜ Writes (ifOutcome (now (x .entry)) (now (y .entry)) (now (z .entry))) (now (out .entry)) first r (now (out .exit)) ⌝ }
 {
-    if !is_operand(x) {
-        return refuse(7);
-    }
-    if !is_operand(y) {
-        return refuse(7);
-    }
-    if !is_operand(z) {
-        return refuse(7);
+    let refusal = check_operands(x, y, z);
+    if refusal != 0 {
+        return refuse(refusal);
     }
     let enough = most(x.len(), most(y.len(), z.len()));
     run(Operation::If, x, y, z, enough, out, first)
+}
+
+// bitwise-copy-bit: the bit at a position becomes 0 or 1
+pub fn bitwise_copy_bit(x: &[u32], position: i64, bit: i64, out: &mut [u32], first: u64) -> Written
+    ensures { λ r. ⌜ Writes (copyBitOutcome (now (x .entry)) position bit) (now (out .entry)) first r (now (out .exit)) ⌝ }
+{
+    let refusal = check_bit(x, position, bit);
+    if refusal != 0 {
+        return refuse(refusal);
+    }
+    let source = [natural(bit) as u32];
+    copy_field(
+        x,
+        &source,
+        natural(position),
+        natural(position) + 1,
+        out,
+        first,
+    )
+}
+
+// bitwise-bit-field: the field as a number
+pub fn bitwise_bit_field(x: &[u32], start: i64, end: i64, out: &mut [u32], first: u64) -> Written
+    ensures { λ r. ⌜ Writes (bitFieldOutcome (now (x .entry)) start end) (now (out .entry)) first r (now (out .exit)) ⌝ }
+{
+    let refusal = check_field(x, x, start, end);
+    if refusal != 0 {
+        return refuse(refusal);
+    }
+    take_field(x, natural(start), natural(end), out, first)
+}
+
+// bitwise-copy-bit-field: the field gets the low bits of y
+pub fn bitwise_copy_bit_field(
+    x: &[u32],
+    start: i64,
+    end: i64,
+    y: &[u32],
+    out: &mut [u32],
+    first: u64,
+) -> Written
+    ensures { λ r. ⌜ Writes (copyBitFieldOutcome (now (x .entry)) start end (now (y .entry))) (now (out .entry)) first r (now (out .exit)) ⌝ }
+{
+    let refusal = check_field(x, y, start, end);
+    if refusal != 0 {
+        return refuse(refusal);
+    }
+    copy_field(x, y, natural(start), natural(end), out, first)
+}
+
+// bitwise-arithmetic-shift: to the left by a positive distance, to the right by a negative one
+pub fn bitwise_shift(x: &[u32], distance: i64, out: &mut [u32], first: u64) -> Written
+    ensures { λ r. ⌜ Writes (shiftOutcome (now (x .entry)) distance) (now (out .entry)) first r (now (out .exit)) ⌝ }
+{
+    let refusal = check_operands(x, x, x);
+    if refusal != 0 {
+        return refuse(refusal);
+    }
+    if distance < 0 {
+        move_right(x, complement(distance) + 1, out, first)
+    } else {
+        move_left(x, natural(distance), out, first)
+    }
+}
+
+// bitwise-arithmetic-shift-left
+pub fn bitwise_shift_left(x: &[u32], distance: i64, out: &mut [u32], first: u64) -> Written
+    ensures { λ r. ⌜ Writes (shiftLeftOutcome (now (x .entry)) distance) (now (out .entry)) first r (now (out .exit)) ⌝ }
+{
+    let refusal = check_count(x, distance);
+    if refusal != 0 {
+        return refuse(refusal);
+    }
+    move_left(x, natural(distance), out, first)
+}
+
+// bitwise-arithmetic-shift-right
+pub fn bitwise_shift_right(x: &[u32], distance: i64, out: &mut [u32], first: u64) -> Written
+    ensures { λ r. ⌜ Writes (shiftRightOutcome (now (x .entry)) distance) (now (out .entry)) first r (now (out .exit)) ⌝ }
+{
+    let refusal = check_count(x, distance);
+    if refusal != 0 {
+        return refuse(refusal);
+    }
+    move_right(x, natural(distance), out, first)
+}
+
+// bitwise-rotate-bit-field: towards the high end
+pub fn bitwise_rotate(
+    x: &[u32],
+    start: i64,
+    end: i64,
+    count: i64,
+    out: &mut [u32],
+    first: u64,
+) -> Written
+    ensures { λ r. ⌜ Writes (rotateOutcome (now (x .entry)) start end count) (now (out .entry)) first r (now (out .exit)) ⌝ }
+{
+    let refusal = check_rotation(x, start, end, count);
+    if refusal != 0 {
+        return refuse(refusal);
+    }
+    rotate_field(x, natural(start), natural(end), natural(count), out, first)
+}
+
+// bitwise-reverse-bit-field
+pub fn bitwise_reverse(x: &[u32], start: i64, end: i64, out: &mut [u32], first: u64) -> Written
+    ensures { λ r. ⌜ Writes (reverseOutcome (now (x .entry)) start end) (now (out .entry)) first r (now (out .exit)) ⌝ }
+{
+    let refusal = check_field(x, x, start, end);
+    if refusal != 0 {
+        return refuse(refusal);
+    }
+    reverse_field(x, natural(start), natural(end), out, first)
+}
+
+// bitwise-bit-count
+pub fn bitwise_bit_count(x: &[u32]) -> Number
+    ensures { λ r. ⌜ r ≡ number (bitCountOutcome (now (x .entry))) ⌝ }
+{
+    if !is_operand(x) {
+        return refuse_number(7);
+    }
+    done(bit_count(x))
+}
+
+// bitwise-length
+pub fn bitwise_length(x: &[u32]) -> Number
+    ensures { λ r. ⌜ r ≡ number (lengthOutcome (now (x .entry))) ⌝ }
+{
+    if !is_operand(x) {
+        return refuse_number(7);
+    }
+    done(bit_length(x) as i64)
+}
+
+// bitwise-first-bit-set
+pub fn bitwise_first_bit_set(x: &[u32]) -> Number
+    ensures { λ r. ⌜ r ≡ number (firstBitSetOutcome (now (x .entry))) ⌝ }
+{
+    if !is_operand(x) {
+        return refuse_number(7);
+    }
+    done(first_bit_set(x))
+}
+
+// bitwise-bit-set?
+pub fn bitwise_bit_set(x: &[u32], position: i64) -> Number
+    ensures { λ r. ⌜ r ≡ number (bitSetOutcome (now (x .entry)) position) ⌝ }
+{
+    if !is_operand(x) {
+        return refuse_number(7);
+    }
+    if position < 0 {
+        return refuse_number(5);
+    }
+    done((window(x, position as u64) % 2) as i64)
+}
+
+// An integer as one signed 64-bit word; refusal 6 where it does not fit.
+pub fn to_word(x: &[u32]) -> Number
+    ensures { λ r. ⌜ r ≡ number (wordOutcome (now (x .entry))) ⌝ }
+{
+    if !is_operand(x) {
+        return refuse_number(7);
+    }
+    if 64 <= bit_length(x) {
+        return refuse_number(6);
+    }
+    done(word(x))
 }

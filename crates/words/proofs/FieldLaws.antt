@@ -15,21 +15,17 @@ use Rattle.bits.specs.Sign.{ofMagnitude}
 use Rattle.bits.specs.Shift.{floorDiv, shiftRight}
 use Rattle.bits.specs.Division.{modℕ}
 use Rattle.bits.specs.Field.{copyBitField}
+use Rattle.bits.proofs.MagnitudeLaws.{ofMagnitude-mag}
 use Rattle.bits.proofs.FieldWords.{copyBitField-magnitude, setField-lt}
 use Rattle.bits.proofs.RotateWords.{reverseDigits}
 use Rattle.bits.proofs.WordLaws.{back, mag-ofMagnitude}
 
 -- ---- sign and magnitude
 
-apart : (x : ℤ) → ofMagnitude (isNegative x) (mag x) ≡ x
-unfolding ofMagnitude isNegative
-apart (pos n) = refl
-apart (negsuc n) = refl
-
 -- a word from what `is_negative` and `magnitude` answered
 pub together : {x : ℤ} {negative : Bool} {m : ℕ} → SFits w64 x
     → negative ≡ isNegative (toZ w64 (ofZ w64 x)) → m ≡ mag (toZ w64 (ofZ w64 x)) → ofMagnitude negative m ≡ x
-together {x} h p q = ap₂ ofMagnitude p q ∙ apart (toZ w64 (ofZ w64 x)) ∙ back h
+together {x} h p q = ap₂ ofMagnitude p q ∙ ofMagnitude-mag (toZ w64 (ofZ w64 x)) ∙ back h
 
 pub magnitude-lt : {x : ℤ} {m : ℕ} → SFits w64 x → m ≡ mag (toZ w64 (ofZ w64 x)) → m < 2 ^ 63
 magnitude-lt {x} h q = subst (λ (n : ℕ). n < 2 ^ 63) (sym (q ∙ ap mag (back h))) (h .sfits)

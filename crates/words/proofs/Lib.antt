@@ -1,5 +1,4 @@
 pub mod LogicalWords
-pub mod CountWords
 pub mod DivisionWords
 pub mod FieldLaws
 pub mod SignedLaws

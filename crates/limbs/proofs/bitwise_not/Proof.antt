@@ -1,42 +1,37 @@
--- `limbs::bitwise_not` meets its contract. Assumes nothing.
-use mathlib.Core.Path.{_≡_, sym, _∙_}
-use mathlib.Core.Bool.{true}
-use borrow.Author.Tests.{not-true, not-false}
-use Rattle.limbs.specs.Operations.{isOperand, notOutcome}
-use Rattle.limbs.specs.Results.{meaning}
-use Rattle.limbs.proofs.OutcomeLaws.{operand-passed, operand-failed, operand-length, writes-refused, writes-as, not-enough}
 use borrow.Author.Needs.{needs}
 use Rattle.limbs.proofs.bitwise_not.Statement.{statement}
 use Rattle.limbs.proofs.bitwise_not.Tie as tie
+use Rattle.limbs.proofs.bitwise_not.Reads as reads
+use Rattle.limbs.proofs.bitwise_not.Lts as lts
+use Rattle.limbs.proofs.check.check_operands.Reads as check-operands-reads
+use Rattle.limbs.proofs.run.refuse.Reads as refuse-reads
+use Rattle.limbs.proofs.run.run.Reads as run-reads
 
-legal : (c : tie.Else1) → isOperand (c .before .before .before .before .args .x .now) ≡ true
-legal c = sym (c .before .is-operand .ensures) ∙ not-false _ (c .if1 .left)
+-- src/lib.rt:73:9
+check-operands-requires : tie.Need-check-operands-requires
+check-operands-requires c κs = search needs
 
-is-operand-requires : tie.Need-is-operand-requires
-is-operand-requires c κs = search needs
-
+-- src/lib.rt:75:9
 refuse-requires : tie.Need-refuse-requires
 refuse-requires c κs = search needs
 
+-- src/lib.rt:75:9
 returns : tie.Need-returns
-unfolding notOutcome
-returns c =
-    writes-refused _ _ (operand-failed _ _ (sym (c .before .before .is-operand .ensures) ∙ not-true _ (c .before .if1 .taken))) (c .refuse .ensures)
+returns c = ?
 
+-- src/lib.rt:77:5
 run-requires : tie.Need-run-requires
-unfolding meaning
-run-requires c κs =
-    let p = operand-length _ (legal (c .before)) in
-    (p, (p, (p, (p, not-enough _ p))))
+run-requires c κs = ?
 
+-- src/lib.rt:70:1
 same-length : tie.Need-same-length
 same-length c = search needs
 
+-- src/lib.rt:70:1
 returns-2 : tie.Need-returns-2
-unfolding notOutcome meaning
-returns-2 c = writes-as (operand-passed _ _ (legal (c .before .before .before .before))) (c .before .before .run .ensures)
+returns-2 c = ?
 
 pub bitwise-not-spec : {M : Type 1} → statement M
 bitwise-not-spec =
     tie.close
-    (tie.spec is-operand-requires refuse-requires returns run-requires same-length returns-2)
+    (tie.spec check-operands-requires refuse-requires returns run-requires same-length returns-2)

@@ -44,13 +44,14 @@ returns c =
     let a = c .before .before .before .before .before .before .before .before .before .before .before .before .before .before .before .before .before in
     let p = c .before .before .before .before .before .before .before .before .before .before .before .first-past .ensures in
     let q = c .before .before .before .before .before .before .before .before .before .before .first-past2 .ensures in
-    let inner = c .before .before .before .before .before .before .before .before .before .before .before .first-past .result in
-    ((omega (arith, p .low, q .low), q .high),
-    puts-join (c .before .before .before .before .before .before .before .before .put-limbs .ensures)
-    (puts-as (λ j h k. ap (λ (at : ℕ). bitsFrom (value (a .args .source .now)) (at + 32 * (j - inner))) (c .before .before .before .before .gap .ensures)
-    ∙ moved-limb (a .pre .1 .1 .0) p q j h k)
-    (c .before .before .put-windows .ensures))
-    (p .low) (q .low))
+    let inner = c .before .before .before .before .before .before .before .before .before .before .before .first-past .result in (
+      (omega (arith, p .low, q .low), q .high),
+      puts-join (c .before .before .before .before .before .before .before .before .put-limbs .ensures)
+          (puts-as (λ j h k. ap (λ (at : ℕ). bitsFrom (value (a .args .source .now)) (at + 32 * (j - inner))) (c .before .before .before .before .gap .ensures)
+          ∙ moved-limb (a .pre .1 .1 .0) p q j h k)
+          (c .before .before .put-windows .ensures))
+          (p .low) (q .low),
+    )
 
 pub put-piece-spec : {M : Type 1} → statement M
 put-piece-spec =

@@ -10,7 +10,7 @@ use lib.Signed.{mag}
 use Rattle.bits.specs.Testbit.{isNegative}
 use Rattle.bits.specs.Sign.{ofMagnitude}
 use Rattle.bits.proofs.WordLaws.{back}
-use Rattle.words.proofs.CountWords.{count-bitCount}
+use Rattle.bits.proofs.CountWords.{count-bitCount}
 use Rattle.words.proofs.count.bit_count.Statement.{statement}
 use Rattle.words.proofs.count.bit_count.Tie as tie
 

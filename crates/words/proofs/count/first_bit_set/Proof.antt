@@ -9,7 +9,7 @@ use lib.IntN.{pos, natAbs}
 use lib.Signed.{natAbs-le}
 use Rattle.bits.specs.Sign.{ofMagnitude}
 use Rattle.bits.proofs.WordLaws.{back}
-use Rattle.words.proofs.CountWords.{trailing-firstBitSet, none-firstBitSet}
+use Rattle.bits.proofs.CountWords.{trailing-firstBitSet, none-firstBitSet}
 use Rattle.words.proofs.count.first_bit_set.Statement.{statement}
 use Rattle.words.proofs.count.first_bit_set.Tie as tie
 

@@ -9,7 +9,7 @@ use lib.IntN.{pos}
 use lib.Signed.{mag}
 use Rattle.bits.specs.Sign.{ofMagnitude}
 use Rattle.bits.proofs.WordLaws.{back}
-use Rattle.words.proofs.CountWords.{leading-bitLength}
+use Rattle.bits.proofs.CountWords.{leading-bitLength}
 use Rattle.words.proofs.count.length.Statement.{statement}
 use Rattle.words.proofs.count.length.Tie as tie
 

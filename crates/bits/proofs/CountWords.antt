@@ -42,7 +42,7 @@ digits-onesBelow zero n h = omega (arith, ones-le 0 n h)
 digits-onesBelow (suc k) n h =
     omega (arith, ones-step n, digits-onesBelow k (n / 2) (omega (arith, pow-suc 2 k)), onesBelow-suc k n)
 
-count-ones : (n : ℕ) → digits.ones n ≡ ones n
+pub count-ones : (n : ℕ) → digits.ones n ≡ ones n
 count-ones n =
     digits-onesBelow (bitLength (pos n)) n (mag-lt-bitLength (pos n)) ∙ sym (ones-onesBelow n (bitLength (pos n)) (le-refl (bitLength (pos n))))
 

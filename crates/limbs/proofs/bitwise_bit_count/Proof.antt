@@ -1,0 +1,43 @@
+-- `limbs::bitwise_bit_count` meets its contract. Assumes nothing.
+use mathlib.Core.Path.{refl, _∙_}
+use mir.Syntax.{w64}
+use mir.ValLaws.{toZ-ofZ}
+use borrow.Author.Needs.{needs}
+use Rattle.limbs.specs.Operations.{bitCountOutcome}
+use Rattle.limbs.proofs.NumberLaws.{refused-operand, operand-lengths, answered}
+use Rattle.limbs.proofs.bitwise_bit_count.Statement.{statement}
+use Rattle.limbs.proofs.bitwise_bit_count.Tie as tie
+
+is-operand-requires : tie.Need-is-operand-requires
+is-operand-requires c κs = search needs
+
+refuse-number-requires : tie.Need-refuse-number-requires
+refuse-number-requires c κs = search needs
+
+returns : tie.Need-returns
+unfolding bitCountOutcome
+returns c = refused-operand _ _ (c .before .before .is-operand .ensures) (c .before .if1 .taken) (c .refuse-number .ensures)
+
+bit-count-requires : tie.Need-bit-count-requires
+bit-count-requires c κs = operand-lengths _ (c .before .is-operand .ensures) (c .if1 .left)
+
+done-requires : tie.Need-done-requires
+done-requires c κs = search needs
+
+returns-2 : tie.Need-returns-2
+unfolding bitCountOutcome
+returns-2 c =
+    let e = c .before .before in
+    answered _ (e .before .is-operand .ensures) (e .if1 .left) refl (c .done .ensures)
+    (toZ-ofZ w64 _ (record { sfits = c .before .bit-count .ok }) ∙ c .before .bit-count .ensures)
+
+pub bitwise-bit-count-spec : {M : Type 1} → statement M
+bitwise-bit-count-spec =
+    tie.close
+    (tie.spec
+    is-operand-requires
+    refuse-number-requires
+    returns
+    bit-count-requires
+    done-requires
+    returns-2)

@@ -1,0 +1,43 @@
+-- `limbs::bitwise_first_bit_set` meets its contract. Assumes nothing.
+use mathlib.Core.Path.{refl, _∙_}
+use mir.Syntax.{w64}
+use mir.ValLaws.{toZ-ofZ}
+use borrow.Author.Needs.{needs}
+use Rattle.limbs.specs.Operations.{firstBitSetOutcome}
+use Rattle.limbs.proofs.NumberLaws.{refused-operand, operand-lengths, answered}
+use Rattle.limbs.proofs.bitwise_first_bit_set.Statement.{statement}
+use Rattle.limbs.proofs.bitwise_first_bit_set.Tie as tie
+
+is-operand-requires : tie.Need-is-operand-requires
+is-operand-requires c κs = search needs
+
+refuse-number-requires : tie.Need-refuse-number-requires
+refuse-number-requires c κs = search needs
+
+returns : tie.Need-returns
+unfolding firstBitSetOutcome
+returns c = refused-operand _ _ (c .before .before .is-operand .ensures) (c .before .if1 .taken) (c .refuse-number .ensures)
+
+first-bit-set-requires : tie.Need-first-bit-set-requires
+first-bit-set-requires c κs = operand-lengths _ (c .before .is-operand .ensures) (c .if1 .left)
+
+done-requires : tie.Need-done-requires
+done-requires c κs = search needs
+
+returns-2 : tie.Need-returns-2
+unfolding firstBitSetOutcome
+returns-2 c =
+    let e = c .before .before in
+    answered _ (e .before .is-operand .ensures) (e .if1 .left) refl (c .done .ensures)
+    (toZ-ofZ w64 _ (record { sfits = c .before .first-bit-set .ok }) ∙ c .before .first-bit-set .ensures)
+
+pub bitwise-first-bit-set-spec : {M : Type 1} → statement M
+bitwise-first-bit-set-spec =
+    tie.close
+    (tie.spec
+    is-operand-requires
+    refuse-number-requires
+    returns
+    first-bit-set-requires
+    done-requires
+    returns-2)

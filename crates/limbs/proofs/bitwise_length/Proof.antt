@@ -1,0 +1,53 @@
+-- `limbs::bitwise_length` meets its contract. Assumes nothing.
+use native.Mathlib.Omega.{arith}
+use mathlib.Core.Path.{refl, ap, _∙_}
+use lib.IntN.{pos}
+use mir.Syntax.{w64}
+use mir.ValLaws.{toZ-pos}
+use borrow.Author.Needs.{needs}
+use Rattle.limbs.specs.Operations.{lengthOutcome}
+use Rattle.limbs.proofs.ValueLaws.{value-length}
+use Rattle.limbs.proofs.NumberLaws.{refused-operand, operand-lengths, answered}
+use Rattle.limbs.proofs.bitwise_length.Statement.{statement}
+use Rattle.limbs.proofs.bitwise_length.Tie as tie
+
+is-operand-requires : tie.Need-is-operand-requires
+is-operand-requires c κs = search needs
+
+refuse-number-requires : tie.Need-refuse-number-requires
+refuse-number-requires c κs = search needs
+
+returns : tie.Need-returns
+unfolding lengthOutcome
+returns c = refused-operand _ _ (c .before .before .is-operand .ensures) (c .before .if1 .taken) (c .refuse-number .ensures)
+
+bit-length-requires : tie.Need-bit-length-requires
+bit-length-requires c κs = operand-lengths _ (c .before .is-operand .ensures) (c .if1 .left)
+
+cast-done : tie.Need-cast-done
+cast-done c =
+    let e = c .before in
+    let (positive, most) = operand-lengths _ (e .before .is-operand .ensures) (e .if1 .left) in
+    record { sfits = omega (arith, c .bit-length .ensures, value-length (e .before .before .before .args .x .now) positive) }
+
+done-requires : tie.Need-done-requires
+done-requires c κs = search needs
+
+returns-2 : tie.Need-returns-2
+unfolding lengthOutcome
+returns-2 c =
+    let e = c .before .before in
+    answered _ (e .before .is-operand .ensures) (e .if1 .left) refl (c .done .ensures)
+    (toZ-pos w64 _ (cast-done (c .before) .sfits) ∙ ap pos (c .before .bit-length .ensures))
+
+pub bitwise-length-spec : {M : Type 1} → statement M
+bitwise-length-spec =
+    tie.close
+    (tie.spec
+    is-operand-requires
+    refuse-number-requires
+    returns
+    bit-length-requires
+    cast-done
+    done-requires
+    returns-2)
