@@ -11,6 +11,7 @@ pub mod FieldLimbs
 pub mod SegmentLaws
 pub mod CountLimbs
 pub mod OutcomeLaws
+pub mod StageLaws
 pub mod NumberLaws
 pub mod Demand3
 pub mod Cases

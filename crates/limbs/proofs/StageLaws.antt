@@ -1,0 +1,78 @@
+-- What a call's first refusal says: its answer where there is one, and where there is none, that its operands and its numbers are legal.
+-- Assumes nothing.
+use Prim.Native.Nat.{ℕ, zero-le, _≤_}
+use native.Mathlib.Omega.{arith}
+use mathlib.Core.Path.{_≡_, refl, sym, ap, _∙_}
+use mathlib.Core.Bool.{Bool, true, false, _&&_}
+use mathlib.Core.List.{List}
+use lib.Dec.{leb}
+use lib.IntN.{ℤ, pos, negsuc, natAbs}
+use lib.Signed.{leZ}
+use borrow.Author.Tests.{le-leb, leb-true}
+use Rattle.bits.specs.Range.{within}
+use Rattle.limbs.specs.declared.Written.{Written}
+use Rattle.limbs.specs.Buffer.{Outcome, integer, unless, checked, Decides, refusal, Writes}
+use Rattle.limbs.specs.Operations.{isOperand, operand, field}
+use Rattle.limbs.proofs.OutcomeLaws.{checked-none, checked-refused, stage-passed, operand-twice, writes-refused, writes-as}
+
+-- ---- answers
+
+pub refused-call : {stages : Outcome → Outcome} {k : ℕ} {out : List ℕ} {first : ℕ} {r : Written} → Decides stages k → (o : Outcome) → (k ≡ 0 → ⊥)
+    → r ≡ refusal k → Writes (stages o) out first r out
+refused-call {k} {out} {first} d o h e = writes-refused out first (d .so o ∙ checked-refused k o h) e
+
+pub none-refused : {stages : Outcome → Outcome} {k : ℕ} → Decides stages k → k ≡ 0 → (o : Outcome) → stages o ≡ o
+none-refused d h o = d .so o ∙ checked-none o h
+
+pub done-call : {stages : Outcome → Outcome} {k : ℕ} {o p : Outcome} {out out′ : List ℕ} {first : ℕ} {r : Written} → Decides stages k → k ≡ 0
+    → o ≡ p → Writes p out first r out′ → Writes (stages o) out first r out′
+done-call {o} d h e w = writes-as (none-refused d h o ∙ e) w
+
+-- ---- an operand that is tested again
+
+pub decides-as : {stages others : Outcome → Outcome} {k : ℕ} → ((o : Outcome) → stages o ≡ others o) → Decides stages k → Decides others k
+decides-as e d = record { so = λ o. sym (e o) ∙ d .so o }
+
+pub one-operand : (x : List ℕ) {k : ℕ} → Decides (λ o. operand x (operand x (operand x o))) k → Decides (λ o. operand x o) k
+one-operand x d = decides-as (λ o. operand-twice x (operand x o) ∙ operand-twice x o) d
+
+pub two-operands : (x y : List ℕ) {k : ℕ} → Decides (λ o. operand x (operand y (operand y o))) k → Decides (λ o. operand x (operand y o)) k
+two-operands x y d = decides-as (λ o. ap (operand x) (operand-twice y o)) d
+
+pub one-field : (x : List ℕ) (start end : ℤ) {k : ℕ} → Decides (λ o. operand x (operand x (field start end o))) k → Decides (λ o. operand x (field start end o)) k
+one-field x start end d = decides-as (λ o. operand-twice x (field start end o)) d
+
+-- ---- what holds where nothing is refused
+
+-- one stage: it is passed, and so are those after it
+pub operand-legal : (x : List ℕ) (o : Outcome) {z : ℤ} → operand x o ≡ integer z → (isOperand x ≡ true) × (o ≡ integer z)
+unfolding operand
+operand-legal x o e = stage-passed (isOperand x) 7 o e
+
+-- the numbers of a field
+pub record LegalField (start end : ℤ) : Type 0 where
+  pub from : leZ (pos 0) start ≡ true
+  pub to : leZ (pos 0) end ≡ true
+  pub order : natAbs start ≤ natAbs end
+  pub last : natAbs end ≤ 32767
+
+false-true : false ≡ true → ⊥
+false-true e = let z : _≡_ {A = ℕ} 0 1 = cc in absurd (omega arith)
+
+within-order : (start end : ℤ) → within (pos 0) start end ≡ true → leZ end (pos 32767) ≡ true → LegalField start end
+unfolding within
+within-order (pos a) (pos b) h k = record {
+  from = le-leb 0 a zero-le;
+  to = le-leb 0 b zero-le;
+  order = leb-true a b (sym (ap (λ (t : Bool). t && leb a b) (le-leb 0 a zero-le)) ∙ h);
+  last = leb-true b 32767 k;
+}
+within-order (pos a) (negsuc b) h k = absurd (false-true (sym (ap (λ (t : Bool). t && false) (le-leb 0 a zero-le)) ∙ h))
+within-order (negsuc a) end h k = absurd (false-true h)
+
+pub field-legal : (start end : ℤ) (o : Outcome) {z : ℤ} → field start end o ≡ integer z → LegalField start end × (o ≡ integer z)
+unfolding field
+field-legal start end o e =
+    let a = stage-passed (within (pos 0) start end) 5 (unless (leZ end (pos 32767)) 5 o) e in
+    let b = stage-passed (leZ end (pos 32767)) 5 o (a .1) in
+    (within-order start end (a .0) (b .0), b .1)
