@@ -9,6 +9,7 @@ pub mod LogicalLaws
 pub mod SpliceLaws
 pub mod FieldLimbs
 pub mod SegmentLaws
+pub mod RotationCounts
 pub mod CountLimbs
 pub mod OutcomeLaws
 pub mod StageLaws

@@ -11,7 +11,7 @@ use lib.ListN.{length}
 use borrow.Author.Tests.{leb-true, ne-eqb, not-true, not-false}
 use Rattle.bits.specs.Testbit.{bitLength}
 use Rattle.bits.specs.Logical.{bitwise, bitwiseNot, bitwiseAnd, bitwiseIor, bitwiseIf}
-use Rattle.bits.proofs.Booleans.{both-left}
+use Rattle.bits.proofs.Booleans.{both-left, both-right}
 use Rattle.bits.proofs.TestbitLaws.{testbit-above}
 use Rattle.bits.proofs.LengthLaws.{bitLength-least-bits, bitLength-not}
 use Rattle.bits.proofs.LogicalLaws.{testbit-bitwise, isNegative-bitwise}
@@ -72,6 +72,10 @@ operand-twice xs o = go (isOperand xs)
 pub operand-length : (xs : List ℕ) → isOperand xs ≡ true → 0 < length xs
 unfolding isOperand
 operand-length xs h = leb-true 1 (length xs) (both-left (leb 1 (length xs)) (leb (length xs) mostLimbs) h)
+
+pub operand-most : (xs : List ℕ) → isOperand xs ≡ true → length xs ≤ 1024
+unfolding isOperand mostLimbs
+operand-most xs h = leb-true (length xs) 1024 (both-right (leb 1 (length xs)) (leb (length xs) 1024) h)
 
 -- ---- answers
 

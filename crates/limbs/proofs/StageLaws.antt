@@ -76,3 +76,44 @@ field-legal start end o e =
     let a = stage-passed (within (pos 0) start end) 5 (unless (leZ end (pos 32767)) 5 o) e in
     let b = stage-passed (leZ end (pos 32767)) 5 o (a .1) in
     (within-order start end (a .0) (b .0), b .1)
+
+module _ {k : ℕ} (h : k ≡ 0) where
+  pub legal-one : (x : List ℕ) → Decides (λ o. operand x o) k → isOperand x ≡ true
+  legal-one x d = operand-legal x _ (none-refused d h (integer (pos 0))) .0
+
+  pub legal-two : (x y : List ℕ) → Decides (λ o. operand x (operand y o)) k → (isOperand x ≡ true) × (isOperand y ≡ true)
+  legal-two x y d =
+      let a = operand-legal x _ (none-refused d h (integer (pos 0))) in
+      (a .0, operand-legal y _ (a .1) .0)
+
+  pub legal-three : (x y z : List ℕ) → Decides (λ o. operand x (operand y (operand z o))) k → (isOperand x ≡ true) × ((isOperand y ≡ true) × (isOperand z ≡ true))
+  legal-three x y z d =
+      let a = operand-legal x _ (none-refused d h (integer (pos 0))) in
+      let b = operand-legal y _ (a .1) in
+      (a .0, (b .0, operand-legal z _ (b .1) .0))
+
+  pub legal-field : (x : List ℕ) (start end : ℤ) → Decides (λ o. operand x (field start end o)) k → (isOperand x ≡ true) × LegalField start end
+  legal-field x start end d =
+      let a = operand-legal x _ (none-refused d h (integer (pos 0))) in
+      (a .0, field-legal start end _ (a .1) .0)
+
+  pub legal-fields : (x y : List ℕ) (start end : ℤ) → Decides (λ o. operand x (operand y (field start end o))) k
+      → (isOperand x ≡ true) × ((isOperand y ≡ true) × LegalField start end)
+  legal-fields x y start end d =
+      let a = operand-legal x _ (none-refused d h (integer (pos 0))) in
+      let b = operand-legal y _ (a .1) in
+      (a .0, (b .0, field-legal start end _ (b .1) .0))
+
+  pub legal-rotation : (x : List ℕ) (start end c : ℤ) → Decides (λ o. operand x (field start end (unless (leZ (pos 0) c) 5 o))) k
+      → ((isOperand x ≡ true) × LegalField start end) × (leZ (pos 0) c ≡ true)
+  legal-rotation x start end c d =
+      let a = operand-legal x _ (none-refused d h (integer (pos 0))) in
+      let b = field-legal start end _ (a .1) in
+      ((a .0, b .0), stage-passed (leZ (pos 0) c) 5 (integer (pos 0)) (b .1) .0)
+
+  pub legal-bit : (x : List ℕ) (i bit : ℤ) → Decides (λ o. operand x (unless (within (pos 0) i (pos 32766)) 5 (unless (within (pos 0) bit (pos 1)) 5 o))) k
+      → (isOperand x ≡ true) × ((within (pos 0) i (pos 32766) ≡ true) × (within (pos 0) bit (pos 1) ≡ true))
+  legal-bit x i bit d =
+      let a = operand-legal x _ (none-refused d h (integer (pos 0))) in
+      let b = stage-passed (within (pos 0) i (pos 32766)) 5 (unless (within (pos 0) bit (pos 1)) 5 (integer (pos 0))) (a .1) in
+      (a .0, (b .0, stage-passed (within (pos 0) bit (pos 1)) 5 (integer (pos 0)) (b .1) .0))

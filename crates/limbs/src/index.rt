@@ -1,6 +1,6 @@
 // Which of two indices or positions is less, which is more, and how far it is from one to the other.
 ghost use mathlib.Core.Path.{_≡_};
-ghost use Prim.Native.Nat.{_-_, _≤_};
+ghost use Prim.Native.Nat.{_+_, _-_, _≤_};
 ghost use Rattle.limbs.specs.Buffer.{Past};
 
 pub fn least(a: usize, b: usize) -> usize
@@ -10,7 +10,7 @@ pub fn least(a: usize, b: usize) -> usize
 }
 
 pub fn most(a: usize, b: usize) -> usize
-    ensures { λ r. ⌜ (a ≤ r) × (b ≤ r) ⌝ }
+    ensures { λ r. ⌜ ((a ≤ r) × (b ≤ r)) × (r ≤ a + b) ⌝ }
 {
     if a < b { b } else { a }
 }

@@ -1,7 +1,7 @@
 // The operations on operands that are legal, or that are tested here.
 ghost use mathlib.Core.Path.{_≡_};
 ghost use mathlib.Core.Bool.{true, cond};
-ghost use Prim.Native.Nat.{_*_, _-_, _%_, _≤_, _<_};
+ghost use Prim.Native.Nat.{_+_, _*_, _-_, _%_, _≤_, _<_};
 ghost use lib.Dec.{eqb, ltb};
 ghost use lib.IntN.{pos};
 ghost use lib.ListN.{length};
@@ -39,7 +39,7 @@ pub fn combine_operands(by: Logic, x: &[u32], y: &[u32], out: &mut [u32], first:
 // How many limbs are enough for an operand with a field up to `end`.
 fn enough_for(x: &[u32], end: u64) -> usize
     requires { ⌜ end ≤ 32767 ⌝ }
-    ensures { λ r. ⌜ (length (now (x .entry)) ≤ r) × (end < 32 * r) ⌝ }
+    ensures { λ r. ⌜ ((length (now (x .entry)) ≤ r) × (end < 32 * r)) × (r ≤ length (now (x .entry)) + 1024) ⌝ }
 {
     most(x.len(), (end / 32) as usize + 1)
 }

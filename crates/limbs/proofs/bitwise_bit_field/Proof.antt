@@ -1,44 +1,63 @@
+-- `limbs::bitwise_bit_field` meets its contract. Assumes nothing.
+use native.Mathlib.Omega.{arith}
+use Prim.Native.Nat.{ℕ}
+use mathlib.Core.Path.{_≡_, sym, ap, ap₂, _∙_}
+use mathlib.Core.Bool.{true}
+use lib.IntN.{natAbs}
+use Rattle.bits.proofs.WordLaws.{back}
+use Rattle.bits.specs.Field.{bitField}
+use Rattle.limbs.specs.Value.{value}
+use Rattle.limbs.specs.Buffer.{Decides, integer}
+use Rattle.limbs.specs.Operations.{isOperand, operand, field, bitFieldOutcome}
+use Rattle.limbs.proofs.StageLaws.{refused-call, done-call, LegalField, one-field, legal-field}
 use borrow.Author.Needs.{needs}
 use Rattle.limbs.proofs.bitwise_bit_field.Statement.{statement}
 use Rattle.limbs.proofs.bitwise_bit_field.Tie as tie
-use Rattle.limbs.proofs.bitwise_bit_field.Reads as reads
-use Rattle.limbs.proofs.bitwise_bit_field.Lts as lts
-use Rattle.limbs.proofs.check.check_field.Reads as check-field-reads
-use Rattle.limbs.proofs.check.natural.Reads as natural-reads
-use Rattle.limbs.proofs.operand.take_field.Reads as take-field-reads
-use Rattle.limbs.proofs.run.refuse.Reads as refuse-reads
 
--- src/lib.rt:136:9
+decided : (c : tie.After-check-field) → let a = c .before .before .before in Decides (λ o. operand (a .args .x .now) (field (a .args .start) (a .args .end) o)) (c .check-field .result)
+decided c =
+    let f = c .before .before .before .fits in
+    one-field _ _ _ (rw (back (f .start), back (f .end)) at (c .check-field .ensures))
+
+legal : (c : tie.Else1) → let a = c .before .before .before .before in (isOperand (a .args .x .now) ≡ true) × LegalField (a .args .start) (a .args .end)
+legal c = legal-field (c .if1 .left) _ _ _ (decided (c .before))
+
+-- the numbers as the machine has them
+from : (c : tie.After-natural) → c .natural .result ≡ natAbs (c .before .before .before .before .before .args .start)
+from c = c .natural .ensures ∙ ap natAbs (back (c .before .before .before .before .before .fits .start))
+
+to : (c : tie.After-natural2) → c .natural2 .result ≡ natAbs (c .before .before .before .before .before .before .args .end)
+to c = c .natural2 .ensures ∙ ap natAbs (back (c .before .before .before .before .before .before .fits .end))
+
 check-field-requires : tie.Need-check-field-requires
 check-field-requires c κs = search needs
 
--- src/lib.rt:138:9
 refuse-requires : tie.Need-refuse-requires
 refuse-requires c κs = search needs
 
--- src/lib.rt:138:9
 returns : tie.Need-returns
-returns c = ?
+unfolding bitFieldOutcome
+returns c = refused-call (decided (c .before .before)) _ (c .before .if1 .taken) (c .refuse .ensures)
 
--- src/lib.rt:140:19
 natural-requires : tie.Need-natural-requires
-natural-requires c κs = ?
+natural-requires c κs = rw (back (c .before .before .before .before .fits .start)) (legal c .1 .from)
 
--- src/lib.rt:140:35
 natural-requires-2 : tie.Need-natural-requires-2
-natural-requires-2 c κs = ?
+natural-requires-2 c κs = rw (back (c .before .before .before .before .before .fits .end)) (legal (c .before) .1 .to)
 
--- src/lib.rt:140:5
 take-field-requires : tie.Need-take-field-requires
-take-field-requires c κs = ?
+take-field-requires c κs = (legal (c .before .before .before) .0, omega (arith, from (c .before .before), to (c .before), legal (c .before .before .before) .1 .order, legal (c .before .before .before) .1 .last))
 
--- src/lib.rt:133:1
 same-length : tie.Need-same-length
 same-length c = search needs
 
--- src/lib.rt:133:1
 returns-2 : tie.Need-returns-2
-returns-2 c = ?
+unfolding bitFieldOutcome
+returns-2 c =
+    let a = c .before .before .before .before .before .before .before .before .before .before in
+    done-call (decided (c .before .before .before .before .before .before .before)) (c .before .before .before .before .before .before .if1 .left)
+    (ap₂ (λ (s e : ℕ). integer (bitField (value (a .args .x .now)) s e)) (sym (from (c .before .before .before .before .before))) (sym (to (c .before .before .before .before))))
+    (c .before .before .take-field .ensures)
 
 pub bitwise-bit-field-spec : {M : Type 1} → statement M
 bitwise-bit-field-spec =

@@ -1,44 +1,63 @@
+-- `limbs::bitwise_copy_bit_field` meets its contract. Assumes nothing.
+use native.Mathlib.Omega.{arith}
+use Prim.Native.Nat.{ℕ}
+use mathlib.Core.Path.{_≡_, sym, ap, ap₂, _∙_}
+use mathlib.Core.Bool.{true}
+use lib.IntN.{natAbs}
+use Rattle.bits.proofs.WordLaws.{back}
+use Rattle.bits.specs.Field.{copyBitField}
+use Rattle.limbs.specs.Value.{value}
+use Rattle.limbs.specs.Buffer.{Decides, integer}
+use Rattle.limbs.specs.Operations.{isOperand, operand, field, copyBitFieldOutcome}
+use Rattle.limbs.proofs.StageLaws.{refused-call, done-call, LegalField, legal-fields}
 use borrow.Author.Needs.{needs}
 use Rattle.limbs.proofs.bitwise_copy_bit_field.Statement.{statement}
 use Rattle.limbs.proofs.bitwise_copy_bit_field.Tie as tie
-use Rattle.limbs.proofs.bitwise_copy_bit_field.Reads as reads
-use Rattle.limbs.proofs.bitwise_copy_bit_field.Lts as lts
-use Rattle.limbs.proofs.check.check_field.Reads as check-field-reads
-use Rattle.limbs.proofs.check.natural.Reads as natural-reads
-use Rattle.limbs.proofs.operand.copy_field.Reads as copy-field-reads
-use Rattle.limbs.proofs.run.refuse.Reads as refuse-reads
 
--- src/lib.rt:154:9
+decided : (c : tie.After-check-field) → let a = c .before .before .before .before in Decides (λ o. operand (a .args .x .now) (operand (a .args .y .now) (field (a .args .start) (a .args .end) o))) (c .check-field .result)
+decided c =
+    let f = c .before .before .before .before .fits in
+    (rw (back (f .start), back (f .end)) at (c .check-field .ensures))
+
+legal : (c : tie.Else1) → let a = c .before .before .before .before .before in (isOperand (a .args .x .now) ≡ true) × ((isOperand (a .args .y .now) ≡ true) × LegalField (a .args .start) (a .args .end))
+legal c = legal-fields (c .if1 .left) _ _ _ _ (decided (c .before))
+
+-- the numbers as the machine has them
+from : (c : tie.After-natural) → c .natural .result ≡ natAbs (c .before .before .before .before .before .before .args .start)
+from c = c .natural .ensures ∙ ap natAbs (back (c .before .before .before .before .before .before .fits .start))
+
+to : (c : tie.After-natural2) → c .natural2 .result ≡ natAbs (c .before .before .before .before .before .before .before .args .end)
+to c = c .natural2 .ensures ∙ ap natAbs (back (c .before .before .before .before .before .before .before .fits .end))
+
 check-field-requires : tie.Need-check-field-requires
 check-field-requires c κs = search needs
 
--- src/lib.rt:156:9
 refuse-requires : tie.Need-refuse-requires
 refuse-requires c κs = search needs
 
--- src/lib.rt:156:9
 returns : tie.Need-returns
-returns c = ?
+unfolding copyBitFieldOutcome
+returns c = refused-call (decided (c .before .before)) _ (c .before .if1 .taken) (c .refuse .ensures)
 
--- src/lib.rt:158:22
 natural-requires : tie.Need-natural-requires
-natural-requires c κs = ?
+natural-requires c κs = rw (back (c .before .before .before .before .before .fits .start)) (legal c .1 .1 .from)
 
--- src/lib.rt:158:38
 natural-requires-2 : tie.Need-natural-requires-2
-natural-requires-2 c κs = ?
+natural-requires-2 c κs = rw (back (c .before .before .before .before .before .before .fits .end)) (legal (c .before) .1 .1 .to)
 
--- src/lib.rt:158:5
 copy-field-requires : tie.Need-copy-field-requires
-copy-field-requires c κs = ?
+copy-field-requires c κs = ((legal (c .before .before .before) .0, legal (c .before .before .before) .1 .0), omega (arith, from (c .before .before), to (c .before), legal (c .before .before .before) .1 .1 .order, legal (c .before .before .before) .1 .1 .last))
 
--- src/lib.rt:144:1
 same-length : tie.Need-same-length
 same-length c = search needs
 
--- src/lib.rt:144:1
 returns-2 : tie.Need-returns-2
-returns-2 c = ?
+unfolding copyBitFieldOutcome
+returns-2 c =
+    let a = c .before .before .before .before .before .before .before .before .before .before .before in
+    done-call (decided (c .before .before .before .before .before .before .before)) (c .before .before .before .before .before .before .if1 .left)
+    (ap₂ (λ (s e : ℕ). integer (copyBitField (value (a .args .x .now)) s e (value (a .args .y .now)))) (sym (from (c .before .before .before .before .before))) (sym (to (c .before .before .before .before))))
+    (c .before .before .copy-field .ensures)
 
 pub bitwise-copy-bit-field-spec : {M : Type 1} → statement M
 bitwise-copy-bit-field-spec =

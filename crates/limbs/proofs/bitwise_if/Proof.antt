@@ -1,44 +1,48 @@
+-- `limbs::bitwise_if` meets its contract. Assumes nothing.
+use native.Mathlib.Omega.{arith}
+use mathlib.Core.Path.{refl}
+use Rattle.limbs.specs.Operations.{ifOutcome}
+use Rattle.limbs.specs.Results.{meaning, Proper}
+use Rattle.limbs.proofs.OutcomeLaws.{operand-length, operand-most, if-enough}
+use Rattle.limbs.proofs.StageLaws.{refused-call, done-call, legal-three}
 use borrow.Author.Needs.{needs}
 use Rattle.limbs.proofs.bitwise_if.Statement.{statement}
 use Rattle.limbs.proofs.bitwise_if.Tie as tie
-use Rattle.limbs.proofs.bitwise_if.Reads as reads
-use Rattle.limbs.proofs.bitwise_if.Lts as lts
-use Rattle.limbs.proofs.check.check_operands.Reads as check-operands-reads
-use Rattle.limbs.proofs.index.most.Reads as most-reads
-use Rattle.limbs.proofs.run.refuse.Reads as refuse-reads
-use Rattle.limbs.proofs.run.run.Reads as run-reads
 
--- src/lib.rt:105:9
 check-operands-requires : tie.Need-check-operands-requires
 check-operands-requires c κs = search needs
 
--- src/lib.rt:107:9
 refuse-requires : tie.Need-refuse-requires
 refuse-requires c κs = search needs
 
--- src/lib.rt:107:9
 returns : tie.Need-returns
-returns c = ?
+unfolding ifOutcome
+returns c = refused-call (c .before .before .check-operands .ensures) _ (c .before .if1 .taken) (c .refuse .ensures)
 
--- src/lib.rt:109:32
 most-requires : tie.Need-most-requires
 most-requires c κs = search needs
 
--- src/lib.rt:109:9
 most-requires-2 : tie.Need-most-requires-2
 most-requires-2 c κs = search needs
 
--- src/lib.rt:110:5
 run-requires : tie.Need-run-requires
-run-requires c κs = ?
+unfolding meaning Proper
+run-requires c κs =
+    let l = legal-three (c .before .before .before .if1 .left) _ _ _ (c .before .before .before .before .check-operands .ensures) in
+    let x = operand-length _ (l .0) in
+    let y = operand-length _ (l .1 .0) in
+    let z = operand-length _ (l .1 .1) in
+    let inner = c .before .before .most .ensures in
+    let n = c .before .most2 .ensures in
+    (x, (y, (z, ((tt, (omega arith, omega (arith, operand-most _ (l .0), operand-most _ (l .1 .0), operand-most _ (l .1 .1)))),
+    if-enough _ _ _ _ x y z (n .0 .0) (omega arith) (omega arith)))))
 
--- src/lib.rt:102:1
 same-length : tie.Need-same-length
 same-length c = search needs
 
--- src/lib.rt:102:1
 returns-2 : tie.Need-returns-2
-returns-2 c = ?
+unfolding ifOutcome meaning
+returns-2 c = done-call (c .before .before .before .before .before .before .before .check-operands .ensures) (c .before .before .before .before .before .before .if1 .left) refl (c .before .before .run .ensures)
 
 pub bitwise-if-spec : {M : Type 1} → statement M
 bitwise-if-spec =

@@ -1,35 +1,37 @@
+-- `limbs::bitwise_not` meets its contract. Assumes nothing.
+use native.Mathlib.Omega.{arith}
+use mathlib.Core.Path.{refl}
+use Rattle.limbs.specs.Operations.{notOutcome}
+use Rattle.limbs.specs.Results.{meaning, Proper}
+use Rattle.limbs.proofs.OutcomeLaws.{operand-length, operand-most, not-enough}
+use Rattle.limbs.proofs.StageLaws.{refused-call, done-call, one-operand, legal-one}
 use borrow.Author.Needs.{needs}
 use Rattle.limbs.proofs.bitwise_not.Statement.{statement}
 use Rattle.limbs.proofs.bitwise_not.Tie as tie
-use Rattle.limbs.proofs.bitwise_not.Reads as reads
-use Rattle.limbs.proofs.bitwise_not.Lts as lts
-use Rattle.limbs.proofs.check.check_operands.Reads as check-operands-reads
-use Rattle.limbs.proofs.run.refuse.Reads as refuse-reads
-use Rattle.limbs.proofs.run.run.Reads as run-reads
 
--- src/lib.rt:73:9
 check-operands-requires : tie.Need-check-operands-requires
 check-operands-requires c κs = search needs
 
--- src/lib.rt:75:9
 refuse-requires : tie.Need-refuse-requires
 refuse-requires c κs = search needs
 
--- src/lib.rt:75:9
 returns : tie.Need-returns
-returns c = ?
+unfolding notOutcome
+returns c = refused-call (one-operand _ (c .before .before .check-operands .ensures)) _ (c .before .if1 .taken) (c .refuse .ensures)
 
--- src/lib.rt:77:5
 run-requires : tie.Need-run-requires
-run-requires c κs = ?
+unfolding meaning Proper
+run-requires c κs =
+    let l = legal-one (c .before .if1 .left) _ (one-operand _ (c .before .before .check-operands .ensures)) in
+    let x = operand-length _ l in
+    (x, (x, (x, ((tt, (x, omega (arith, operand-most _ l))), not-enough _ x))))
 
--- src/lib.rt:70:1
 same-length : tie.Need-same-length
 same-length c = search needs
 
--- src/lib.rt:70:1
 returns-2 : tie.Need-returns-2
-returns-2 c = ?
+unfolding notOutcome meaning
+returns-2 c = done-call (one-operand _ (c .before .before .before .before .before .check-operands .ensures)) (c .before .before .before .before .if1 .left) refl (c .before .before .run .ensures)
 
 pub bitwise-not-spec : {M : Type 1} → statement M
 bitwise-not-spec =

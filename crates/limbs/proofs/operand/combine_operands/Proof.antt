@@ -1,40 +1,43 @@
+-- `limbs::operand::combine_operands` meets its contract. Assumes nothing.
+use native.Mathlib.Omega.{arith}
+use mathlib.Core.Path.{refl}
+use Rattle.limbs.specs.Operations.{bitwiseOutcome}
+use Rattle.limbs.specs.Results.{logicOf, meaning, Proper}
+use Rattle.limbs.proofs.OutcomeLaws.{operand-length, operand-most, bitwise-enough}
+use Rattle.limbs.proofs.StageLaws.{refused-call, done-call, two-operands, legal-two}
 use borrow.Author.Needs.{needs}
 use Rattle.limbs.proofs.operand.combine_operands.Statement.{statement}
 use Rattle.limbs.proofs.operand.combine_operands.Tie as tie
-use Rattle.limbs.proofs.operand.combine_operands.Reads as reads
-use Rattle.limbs.proofs.operand.combine_operands.Lts as lts
-use Rattle.limbs.proofs.check.check_operands.Reads as check-operands-reads
-use Rattle.limbs.proofs.index.most.Reads as most-reads
-use Rattle.limbs.proofs.run.refuse.Reads as refuse-reads
-use Rattle.limbs.proofs.run.run.Reads as run-reads
 
--- src/operand.rt:31:9
 check-operands-requires : tie.Need-check-operands-requires
 check-operands-requires c κs = search needs
 
--- src/operand.rt:33:9
 refuse-requires : tie.Need-refuse-requires
 refuse-requires c κs = search needs
 
--- src/operand.rt:33:9
 returns : tie.Need-returns
-returns c = ?
+unfolding bitwiseOutcome
+returns c = refused-call (two-operands _ _ (c .before .before .check-operands .ensures)) _ (c .before .if1 .taken) (c .refuse .ensures)
 
--- src/operand.rt:35:9
 most-requires : tie.Need-most-requires
 most-requires c κs = search needs
 
--- src/operand.rt:36:5
 run-requires : tie.Need-run-requires
-run-requires c κs = ?
+unfolding meaning Proper
+run-requires c κs =
+    let l = legal-two (c .before .before .if1 .left) _ _ (two-operands _ _ (c .before .before .before .check-operands .ensures)) in
+    let x = operand-length _ (l .0) in
+    let y = operand-length _ (l .1) in
+    let n = c .before .most .ensures in
+    (x, (y, (x, ((tt, (omega arith, omega (arith, operand-most _ (l .0), operand-most _ (l .1)))),
+    bitwise-enough (logicOf (c .before .before .before .before .before .before .before .args .by)) _ _ _ x y (n .0 .0) (n .0 .1)))))
 
--- src/operand.rt:28:1
 same-length : tie.Need-same-length
 same-length c = search needs
 
--- src/operand.rt:28:1
 returns-2 : tie.Need-returns-2
-returns-2 c = ?
+unfolding bitwiseOutcome meaning
+returns-2 c = done-call (two-operands _ _ (c .before .before .before .before .before .before .check-operands .ensures)) (c .before .before .before .before .before .if1 .left) refl (c .before .before .run .ensures)
 
 pub combine-operands-spec : {M : Type 1} → statement M
 combine-operands-spec =

@@ -1,20 +1,20 @@
+-- `limbs::operand::reduced` meets its contract. Assumes nothing.
+use Prim.Native.Nat.{_%_}
+use mathlib.Core.Path.{sym, ap}
+use mathlib.Core.Bool.{Bool, cond}
+use borrow.Author.Tests.{eq-eqb, ne-eqb}
 use borrow.Author.Needs.{needs}
 use Rattle.limbs.proofs.operand.reduced.Statement.{statement}
 use Rattle.limbs.proofs.operand.reduced.Tie as tie
-use Rattle.limbs.proofs.operand.reduced.Reads as reads
-use Rattle.limbs.proofs.operand.reduced.Lts as lts
 
--- src/operand.rt:99:31
 rem-result : tie.Need-rem-result
 rem-result c = search needs
 
--- src/operand.rt:96:1
 returns : tie.Need-returns
-returns c = ?
+returns c = let a = c .before .args in sym (ap (λ (b : Bool). cond b 0 (a .count % a .size)) (eq-eqb (a .size) 0 (c .if1 .taken)))
 
--- src/operand.rt:96:1
 returns-2 : tie.Need-returns-2
-returns-2 c = ?
+returns-2 c = let a = c .before .args in sym (ap (λ (b : Bool). cond b 0 (a .count % a .size)) (ne-eqb (a .size) 0 (c .if1 .left)))
 
 pub reduced-spec : {M : Type 1} → statement M
 reduced-spec = tie.close (tie.spec rem-result returns returns-2)

@@ -1,26 +1,34 @@
+-- `limbs::operand::reverse_field` meets its contract. Assumes nothing.
+use native.Mathlib.Omega.{arith}
+use Prim.Native.Nat.{_*_, _-_}
+use Rattle.limbs.specs.Value.{value}
+use Rattle.limbs.specs.Results.{meaning, Proper}
+use Rattle.limbs.proofs.ValueLaws.{value-length}
+use Rattle.limbs.proofs.LengthBounds.{reverseBitField-length}
+use Rattle.limbs.proofs.OutcomeLaws.{operand-length, operand-most}
 use borrow.Author.Needs.{needs}
 use Rattle.limbs.proofs.operand.reverse_field.Statement.{statement}
 use Rattle.limbs.proofs.operand.reverse_field.Tie as tie
-use Rattle.limbs.proofs.operand.reverse_field.Reads as reads
-use Rattle.limbs.proofs.operand.reverse_field.Lts as lts
-use Rattle.limbs.proofs.operand.enough_for.Reads as enough-for-reads
-use Rattle.limbs.proofs.run.run.Reads as run-reads
 
--- src/operand.rt:89:9
 enough-for-requires : tie.Need-enough-for-requires
 enough-for-requires c κs = search needs
 
--- src/operand.rt:84:5
 run-requires : tie.Need-run-requires
-run-requires c κs = ?
+unfolding meaning Proper
+run-requires c κs =
+    let a = c .before .before .before .before in
+    let x = operand-length _ (a .pre .0) in
+    let n = c .before .enough-for .ensures in
+    let l = value-length (a .args .x .now) x in
+    (x, (x, (x, (((a .pre .1 .0, omega arith), (omega arith, omega (arith, operand-most _ (a .pre .0)))),
+    omega (arith, reverseBitField-length (value (a .args .x .now)) (a .args .start) (a .args .end) (32 * c .before .enough-for .result - 1) (omega arith) (omega arith))))))
 
--- src/operand.rt:79:1
 same-length : tie.Need-same-length
 same-length c = search needs
 
--- src/operand.rt:79:1
 returns : tie.Need-returns
-returns c = ?
+unfolding meaning
+returns c = c .before .before .run .ensures
 
 pub reverse-field-spec : {M : Type 1} → statement M
 reverse-field-spec = tie.close (tie.spec enough-for-requires run-requires same-length returns)

@@ -1,35 +1,47 @@
+-- `limbs::operand::rotate_field` meets its contract. Assumes nothing.
+use native.Mathlib.Omega.{arith}
+use Prim.Native.Nat.{_*_, _-_}
+use mathlib.Core.Path.{sym, ap}
+use lib.IntN.{pos}
+use Rattle.limbs.specs.Value.{value}
+use Rattle.limbs.specs.Buffer.{integer}
+use Rattle.limbs.specs.Results.{meaning, Proper}
+use Rattle.limbs.proofs.ValueLaws.{value-length}
+use Rattle.limbs.proofs.LengthBounds.{rotateBitField-length}
+use Rattle.limbs.proofs.RotationCounts.{reduced-le, rotate-reduced}
+use Rattle.limbs.proofs.OutcomeLaws.{operand-length, operand-most, writes-as}
 use borrow.Author.Needs.{needs}
 use Rattle.limbs.proofs.operand.rotate_field.Statement.{statement}
 use Rattle.limbs.proofs.operand.rotate_field.Tie as tie
-use Rattle.limbs.proofs.operand.rotate_field.Reads as reads
-use Rattle.limbs.proofs.operand.rotate_field.Lts as lts
-use Rattle.limbs.proofs.operand.enough_for.Reads as enough-for-reads
-use Rattle.limbs.proofs.operand.reduced.Reads as reduced-reads
-use Rattle.limbs.proofs.run.run.Reads as run-reads
 
--- src/operand.rt:114:29
 sub-reduced : tie.Need-sub-reduced
 sub-reduced c = search needs
 
--- src/operand.rt:114:9
 reduced-requires : tie.Need-reduced-requires
 reduced-requires c κs = search needs
 
--- src/operand.rt:120:9
 enough-for-requires : tie.Need-enough-for-requires
 enough-for-requires c κs = search needs
 
--- src/operand.rt:115:5
 run-requires : tie.Need-run-requires
-run-requires c κs = ?
+unfolding meaning Proper
+run-requires c κs =
+    let a = c .before .before .before .before .before in
+    let x = operand-length _ (a .pre .0) in
+    let n = c .before .enough-for .ensures in
+    let l = value-length (a .args .x .now) x in
+    let by = c .before .before .reduced .ensures in
+    (x, (x, (x, ((((a .pre .1 .0, omega arith), reduced-le _ _ by), (omega arith, omega (arith, operand-most _ (a .pre .0)))),
+    omega (arith, rotateBitField-length (value (a .args .x .now)) (a .args .start) (a .args .end) (pos (c .before .before .reduced .result)) (32 * c .before .enough-for .result - 1) (omega arith) (omega arith))))))
 
--- src/operand.rt:102:1
 same-length : tie.Need-same-length
 same-length c = search needs
 
--- src/operand.rt:102:1
 returns : tie.Need-returns
-returns c = ?
+unfolding meaning
+returns c =
+    let a = c .before .before .before .before .before .before .before .before in
+    writes-as (ap integer (rotate-reduced (value (a .args .x .now)) (a .args .start) (a .args .end) _ (c .before .before .before .before .before .reduced .ensures))) (c .before .before .run .ensures)
 
 pub rotate-field-spec : {M : Type 1} → statement M
 rotate-field-spec =

@@ -1,29 +1,33 @@
+-- `limbs::operand::take_field` meets its contract. Assumes nothing.
+use native.Mathlib.Omega.{arith}
+use Rattle.limbs.specs.Value.{value}
+use Rattle.limbs.specs.Results.{meaning, Proper}
+use Rattle.limbs.proofs.LengthBounds.{bitField-length}
+use Rattle.limbs.proofs.OutcomeLaws.{operand-length}
 use borrow.Author.Needs.{needs}
 use Rattle.limbs.proofs.operand.take_field.Statement.{statement}
 use Rattle.limbs.proofs.operand.take_field.Tie as tie
-use Rattle.limbs.proofs.operand.take_field.Reads as reads
-use Rattle.limbs.proofs.operand.take_field.Lts as lts
-use Rattle.limbs.proofs.run.run.Reads as run-reads
 
--- src/operand.rt:52:20
 sub-enough : tie.Need-sub-enough
 sub-enough c = search needs
 
--- src/operand.rt:52:18
 add-enough : tie.Need-add-enough
 add-enough c = search needs
 
--- src/operand.rt:53:5
 run-requires : tie.Need-run-requires
-run-requires c κs = ?
+unfolding meaning Proper
+run-requires c κs =
+    let a = c .before .before .before in
+    let x = operand-length _ (a .pre .0) in
+    (x, (x, (x, (((a .pre .1 .0, omega arith), (omega arith, omega arith)),
+    omega (arith, bitField-length (value (a .args .x .now)) (a .args .start) (a .args .end))))))
 
--- src/operand.rt:47:1
 same-length : tie.Need-same-length
 same-length c = search needs
 
--- src/operand.rt:47:1
 returns : tie.Need-returns
-returns c = ?
+unfolding meaning
+returns c = c .before .before .run .ensures
 
 pub take-field-spec : {M : Type 1} → statement M
 take-field-spec = tie.close (tie.spec sub-enough add-enough run-requires same-length returns)
