@@ -59,6 +59,9 @@ pub natural-mag : (x : ℤ) → leZ (pos 0) x ≡ true → x ≡ pos (mag x)
 natural-mag (pos n) h = refl
 natural-mag (negsuc n) h = let z : _≡_ {A = ℕ} 0 1 = cc in absurd (omega arith)
 
+pub natural-natAbs : (x : ℤ) → leZ (pos 0) x ≡ true → x ≡ pos (natAbs x)
+natural-natAbs x h = natural-mag x h ∙ ap (λ (y : ℤ). pos (natAbs y)) (sym (natural-mag x h))
+
 -- what the cast of a signed word to an unsigned one asks, and what it gives
 pub cast-word : {z : ℤ} {m : ℕ} → z ≡ pos m → m < 2 ^ 63 → T (nonNeg z) × Fits w64 (natAbs z)
 cast-word {z} {m} e h = subst (λ (y : ℤ). T (nonNeg y) × Fits w64 (natAbs y)) (sym e) (tt, record { fits = omega arith })

@@ -59,16 +59,25 @@ pub record LegalField (start end : ℤ) : Type 0 where
 false-true : false ≡ true → ⊥
 false-true e = let z : _≡_ {A = ℕ} 0 1 = cc in absurd (omega arith)
 
-within-order : (start end : ℤ) → within (pos 0) start end ≡ true → leZ end (pos 32767) ≡ true → LegalField start end
+pub within-natural : (i : ℤ) (n : ℕ) → within (pos 0) i (pos n) ≡ true → (leZ (pos 0) i ≡ true) × (natAbs i ≤ n)
 unfolding within
-within-order (pos a) (pos b) h k = record {
-  from = le-leb 0 a zero-le;
-  to = le-leb 0 b zero-le;
-  order = leb-true a b (sym (ap (λ (t : Bool). t && leb a b) (le-leb 0 a zero-le)) ∙ h);
-  last = leb-true b 32767 k;
-}
-within-order (pos a) (negsuc b) h k = absurd (false-true (sym (ap (λ (t : Bool). t && false) (le-leb 0 a zero-le)) ∙ h))
-within-order (negsuc a) end h k = absurd (false-true h)
+within-natural (pos a) n h = (le-leb 0 a zero-le, leb-true a n (sym (ap (λ (t : Bool). t && leb a n) (le-leb 0 a zero-le)) ∙ h))
+within-natural (negsuc a) n h = absurd (false-true h)
+
+none-below : (a b : ℕ) → within (pos 0) (pos a) (negsuc b) ≡ true → false ≡ true
+unfolding within
+none-below a b h = sym (ap (λ (t : Bool). t && false) (le-leb 0 a zero-le)) ∙ h
+
+none-above : (a : ℕ) (end : ℤ) → within (pos 0) (negsuc a) end ≡ true → false ≡ true
+unfolding within
+none-above a end h = h
+
+within-order : (start end : ℤ) → within (pos 0) start end ≡ true → leZ end (pos 32767) ≡ true → LegalField start end
+within-order (pos a) (pos b) h k =
+    let i = within-natural (pos a) b h in
+    record { from = i .0; to = le-leb 0 b zero-le; order = i .1; last = leb-true b 32767 k }
+within-order (pos a) (negsuc b) h k = absurd (false-true (none-below a b h))
+within-order (negsuc a) end h k = absurd (false-true (none-above a end h))
 
 pub field-legal : (start end : ℤ) (o : Outcome) {z : ℤ} → field start end o ≡ integer z → LegalField start end × (o ≡ integer z)
 unfolding field

@@ -17,8 +17,8 @@ use Rattle.bits.specs.Division.{modℕ}
 use Rattle.bits.proofs.TestbitLaws.{testbit-ext, testbit-above, testbit-mag-lt, testbit-shiftRight, testbit-ofBits-lt, testbit-ofBits-ge, isNegative-ofBits, testbit-fill, isNegative-fill, isNegative-shiftRight}
 use Rattle.bits.proofs.LengthLaws.{bitLength-least-bits}
 use Rattle.bits.proofs.ShiftLaws.{shiftRight-above}
-use Rattle.bits.proofs.ModLaws.{modℕ-lt}
-use Rattle.bits.proofs.ValueLaws.{testbit-modℕ-pow}
+use Rattle.bits.proofs.ModLaws.{modℕ-lt, modℕ-small}
+use Rattle.bits.proofs.ValueLaws.{testbit-modℕ-pow, ofBits-modℕ}
 use Rattle.bits.proofs.FieldWords.{testbit-modℕ-lt}
 use Rattle.limbs.specs.Value.{onTop, value, limbsOf, limbCount, shortest}
 
@@ -103,6 +103,14 @@ pub value-length : (xs : List ℕ) → 0 < length xs → bitLength (value xs) < 
 value-length [] h = absurd (omega arith)
 value-length (n ∷ ms) h =
     omega (arith, bitLength-least-bits (value (n ∷ ms)) (32 * length (n ∷ ms) - 1) (λ i l. testbit-value-sign n ms i (omega arith)))
+
+-- one limb without its top bit
+pub value-small : (n : ℕ) → n < 2 ^ 31 → value (n ∷ []) ≡ pos n
+unfolding value onTop fill isNegative
+value-small n h =
+    ap (λ (s : Bool). ofBits 32 (λ i. testbit (pos n) i) (fill s)) (testbit-mag-lt (pos n) 31 h)
+    ∙ ofBits-modℕ 32 (pos n)
+    ∙ ap pos (modℕ-small n (2 ^ 32) (lt-of-lt-of-le h (pow-mono {i = 31} {j = 32} (omega arith))))
 
 -- ---- the limbs of an integer
 

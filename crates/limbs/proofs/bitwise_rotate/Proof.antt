@@ -1,48 +1,74 @@
+-- `limbs::bitwise_rotate` meets its contract. Assumes nothing.
+use native.Mathlib.Omega.{arith}
+use Prim.Native.Nat.{ℕ}
+use mathlib.Core.Path.{_≡_, sym, ap, ap₂, _∙_}
+use mathlib.Core.Bool.{true}
+use lib.IntN.{ℤ, pos, natAbs}
+use lib.Signed.{leZ}
+use Rattle.bits.proofs.WordLaws.{back, natural-natAbs}
+use Rattle.bits.specs.Field.{rotateBitField}
+use Rattle.limbs.specs.Value.{value}
+use Rattle.limbs.specs.Buffer.{Decides, unless, integer}
+use Rattle.limbs.specs.Operations.{isOperand, operand, field, rotateOutcome}
+use Rattle.limbs.proofs.StageLaws.{refused-call, done-call, LegalField, legal-rotation}
 use borrow.Author.Needs.{needs}
 use Rattle.limbs.proofs.bitwise_rotate.Statement.{statement}
 use Rattle.limbs.proofs.bitwise_rotate.Tie as tie
-use Rattle.limbs.proofs.bitwise_rotate.Reads as reads
-use Rattle.limbs.proofs.bitwise_rotate.Lts as lts
-use Rattle.limbs.proofs.check.check_rotation.Reads as check-rotation-reads
-use Rattle.limbs.proofs.check.natural.Reads as natural-reads
-use Rattle.limbs.proofs.operand.rotate_field.Reads as rotate-field-reads
-use Rattle.limbs.proofs.run.refuse.Reads as refuse-reads
 
--- src/lib.rt:209:9
+decided : (c : tie.After-check-rotation) → let a = c .before .before .before in
+    Decides (λ o. operand (a .args .x .now) (field (a .args .start) (a .args .end) (unless (leZ (pos 0) (a .args .count)) 5 o))) (c .check-rotation .result)
+decided c =
+    let f = c .before .before .before .fits in
+    rw (back (f .start), back (f .end), back (f .count)) at (c .check-rotation .ensures)
+
+legal : (c : tie.Else1) → let a = c .before .before .before .before in
+    ((isOperand (a .args .x .now) ≡ true) × LegalField (a .args .start) (a .args .end)) × (leZ (pos 0) (a .args .count) ≡ true)
+legal c = legal-rotation (c .if1 .left) _ _ _ (c .before .before .before .before .args .count) (decided (c .before))
+
+-- the numbers as the machine has them
+from : (c : tie.After-natural) → c .natural .result ≡ natAbs (c .before .before .before .before .before .args .start)
+from c = c .natural .ensures ∙ ap natAbs (back (c .before .before .before .before .before .fits .start))
+
+to : (c : tie.After-natural2) → c .natural2 .result ≡ natAbs (c .before .before .before .before .before .before .args .end)
+to c = c .natural2 .ensures ∙ ap natAbs (back (c .before .before .before .before .before .before .fits .end))
+
+turns : (c : tie.After-natural3) → c .natural3 .result ≡ natAbs (c .before .before .before .before .before .before .before .args .count)
+turns c = c .natural3 .ensures ∙ ap natAbs (back (c .before .before .before .before .before .before .before .fits .count))
+
 check-rotation-requires : tie.Need-check-rotation-requires
 check-rotation-requires c κs = search needs
 
--- src/lib.rt:211:9
 refuse-requires : tie.Need-refuse-requires
 refuse-requires c κs = search needs
 
--- src/lib.rt:211:9
 returns : tie.Need-returns
-returns c = ?
+unfolding rotateOutcome
+returns c = refused-call (decided (c .before .before)) _ (c .before .if1 .taken) (c .refuse .ensures)
 
--- src/lib.rt:213:21
 natural-requires : tie.Need-natural-requires
-natural-requires c κs = ?
+natural-requires c κs = rw (back (c .before .before .before .before .fits .start)) (legal c .0 .1 .from)
 
--- src/lib.rt:213:37
 natural-requires-2 : tie.Need-natural-requires-2
-natural-requires-2 c κs = ?
+natural-requires-2 c κs = rw (back (c .before .before .before .before .before .fits .end)) (legal (c .before) .0 .1 .to)
 
--- src/lib.rt:213:51
 natural-requires-3 : tie.Need-natural-requires-3
-natural-requires-3 c κs = ?
+natural-requires-3 c κs = rw (back (c .before .before .before .before .before .before .fits .count)) (legal (c .before .before) .1)
 
--- src/lib.rt:213:5
 rotate-field-requires : tie.Need-rotate-field-requires
-rotate-field-requires c κs = ?
+rotate-field-requires c κs = (legal (c .before .before .before .before) .0 .0, omega (arith, from (c .before .before .before), to (c .before .before), legal (c .before .before .before .before) .0 .1 .order, legal (c .before .before .before .before) .0 .1 .last))
 
--- src/lib.rt:199:1
 same-length : tie.Need-same-length
 same-length c = search needs
 
--- src/lib.rt:199:1
 returns-2 : tie.Need-returns-2
-returns-2 c = ?
+unfolding rotateOutcome
+returns-2 c =
+    let a = c .before .before .before .before .before .before .before .before .before .before .before in
+    let count = natural-natAbs _ (legal (c .before .before .before .before .before .before .before) .1) ∙ ap pos (sym (turns (c .before .before .before .before))) in
+    done-call (decided (c .before .before .before .before .before .before .before .before)) (c .before .before .before .before .before .before .before .if1 .left)
+    (ap₂ (λ (s e : ℕ). integer (rotateBitField (value (a .args .x .now)) s e (a .args .count))) (sym (from (c .before .before .before .before .before .before))) (sym (to (c .before .before .before .before .before)))
+    ∙ ap (λ (k : ℤ). integer (rotateBitField (value (a .args .x .now)) (c .before .before .before .before .before .before .natural .result) (c .before .before .before .before .before .natural2 .result) k)) count)
+    (c .before .before .rotate-field .ensures)
 
 pub bitwise-rotate-spec : {M : Type 1} → statement M
 bitwise-rotate-spec =
