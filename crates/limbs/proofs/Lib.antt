@@ -12,6 +12,7 @@ pub mod SegmentLaws
 pub mod CountLimbs
 pub mod OutcomeLaws
 pub mod StageLaws
+pub mod ShiftCalls
 pub mod NumberLaws
 pub mod Demand3
 pub mod Cases

@@ -1,15 +1,18 @@
+-- `limbs::check::complement` meets its contract. Assumes nothing.
+use mathlib.Core.Path.{_≡_, sym, ap, _∙_}
+use lib.IntN.{ℤ, negsuc, natAbs}
+use Rattle.bits.proofs.WordLaws.{not-word, cast-word}
+use Rattle.limbs.proofs.ShiftCalls.{complement-mag}
 use Rattle.limbs.proofs.check.complement.Statement.{statement}
 use Rattle.limbs.proofs.check.complement.Tie as tie
-use Rattle.limbs.proofs.check.complement.Reads as reads
-use Rattle.limbs.proofs.check.complement.Lts as lts
 
--- src/check.rt:107:5
 cast-result : tie.Need-cast-result
-cast-result c = ?
+cast-result c = cast-word (not-word (c .fits .n) ∙ complement-mag _ (c .pre) .0) (c .fits .n .sfits)
 
--- src/check.rt:103:1
 returns : tie.Need-returns
-returns c = ?
+returns c =
+    let m = complement-mag _ (c .pre) in
+    m .1 ∙ sym (ap (λ (z : ℤ). negsuc (natAbs z)) (not-word (c .fits .n) ∙ m .0))
 
 pub complement-spec : {M : Type 1} → statement M
 complement-spec = tie.close (tie.spec cast-result returns)

@@ -1,15 +1,15 @@
+-- `limbs::operand::capped` meets its contract. Assumes nothing.
+use mathlib.Core.Path.{_≡_, sym, ap}
+use mathlib.Core.Bool.{Bool, cond}
+use borrow.Author.Tests.{lt-ltb, le-ltb}
 use Rattle.limbs.proofs.operand.capped.Statement.{statement}
 use Rattle.limbs.proofs.operand.capped.Tie as tie
-use Rattle.limbs.proofs.operand.capped.Reads as reads
-use Rattle.limbs.proofs.operand.capped.Lts as lts
 
--- src/operand.rt:127:1
 returns : tie.Need-returns
-returns c = ?
+returns c = sym (ap (λ (b : Bool). cond b (c .before .args .by) 32768) (lt-ltb _ _ (c .if1 .taken)))
 
--- src/operand.rt:127:1
 returns-2 : tie.Need-returns-2
-returns-2 c = ?
+returns-2 c = sym (ap (λ (b : Bool). cond b (c .before .args .by) 32768) (le-ltb _ _ (c .if1 .left)))
 
 pub capped-spec : {M : Type 1} → statement M
 capped-spec = tie.close (tie.spec returns returns-2)

@@ -1,56 +1,65 @@
+-- `limbs::operand::move_left` meets its contract. Assumes nothing.
+use native.Mathlib.Omega.{arith}
+use Rattle.limbs.specs.Results.{meaning, Proper}
+use Rattle.limbs.proofs.OutcomeLaws.{writes-refused, writes-as}
+use Rattle.limbs.proofs.ShiftCalls.{legal-lengths, left-enough, capped-le, left-done, left-refused}
 use borrow.Author.Needs.{needs}
 use Rattle.limbs.proofs.operand.move_left.Statement.{statement}
 use Rattle.limbs.proofs.operand.move_left.Tie as tie
-use Rattle.limbs.proofs.operand.move_left.Reads as reads
-use Rattle.limbs.proofs.operand.move_left.Lts as lts
-use Rattle.limbs.proofs.measure.measure.Reads as measure-reads
-use Rattle.limbs.proofs.operand.capped.Reads as capped-reads
-use Rattle.limbs.proofs.run.place.Reads as place-reads
-use Rattle.limbs.proofs.run.refuse.Reads as refuse-reads
 
--- src/operand.rt:154:48
 capped-requires : tie.Need-capped-requires
 capped-requires c κs = search needs
 
--- src/operand.rt:155:41
-add-measure : tie.Need-add-measure
-add-measure c = search needs
+add-enough : tie.Need-add-enough
+add-enough c = search needs
 
--- src/operand.rt:155:41
-add-measure-2 : tie.Need-add-measure-2
-add-measure-2 c = search needs
+add-enough-2 : tie.Need-add-enough-2
+add-enough-2 c = search needs
 
--- src/operand.rt:155:9
 measure-requires : tie.Need-measure-requires
-measure-requires c κs = ?
+unfolding meaning Proper
+measure-requires c κs =
+    let a = c .before .before .before in
+    let n = legal-lengths _ (a .pre) in
+    let r = capped-le (a .args .by) (c .capped .ensures) in
+    (n .0, (n .0, (n .0, ((omega arith, (omega arith, omega (arith, n .1))), left-enough _ (a .pre) _))))
 
--- src/operand.rt:157:9
 refuse-requires : tie.Need-refuse-requires
 refuse-requires c κs = search needs
 
--- src/operand.rt:157:9
 returns : tie.Need-returns
-returns c = ?
+unfolding meaning
+returns c =
+    let m = c .before .before in
+    let a = m .before .before .before .before in
+    writes-refused _ _ (left-refused _ (a .pre) (a .args .by) (m .before .capped .ensures) (m .measure .ensures) (c .before .if1 .taken)) (c .refuse .ensures)
 
--- src/operand.rt:159:5
 place-requires : tie.Need-place-requires
-place-requires c κs = ?
+unfolding Proper
+place-requires c κs =
+    let m = c .before .before in
+    let a = m .before .before .before .before in
+    let n = legal-lengths _ (a .pre) .0 in
+    let r = capped-le (a .args .by) (m .before .capped .ensures) in
+    (n, (n, (n, ((omega arith, omega (arith, c .before .if1 .left)), m .measure .ensures))))
 
--- src/operand.rt:150:1
 same-length : tie.Need-same-length
 same-length c = search needs
 
--- src/operand.rt:150:1
 returns-2 : tie.Need-returns-2
-returns-2 c = ?
+unfolding meaning
+returns-2 c =
+    let m = c .before .before .before .before .before in
+    let a = m .before .before .before .before in
+    writes-as (left-done _ (a .pre) (a .args .by) (m .before .capped .ensures) (m .measure .ensures) (c .before .before .before .before .if1 .left)) (c .before .before .place .ensures)
 
 pub move-left-spec : {M : Type 1} → statement M
 move-left-spec =
     tie.close
     (tie.spec
     capped-requires
-    add-measure
-    add-measure-2
+    add-enough
+    add-enough-2
     measure-requires
     refuse-requires
     returns
