@@ -1,62 +1,83 @@
+-- `limbs::bitwise_shift` meets its contract. Assumes nothing.
+use native.Mathlib.Omega.{arith}
+use mathlib.Core.Path.{_≡_, refl, sym, ap, _∙_}
+use mathlib.Core.Bool.{true, not}
+use lib.IntN.{ℤ, pos, natAbs}
+use lib.Signed.{mag}
+use mir.Syntax.{w64}
+use mir.Val.{toZ, ofZ}
+use Rattle.bits.proofs.WordLaws.{back}
+use Rattle.limbs.specs.Value.{value}
+use Rattle.limbs.specs.Buffer.{integer}
+use Rattle.limbs.specs.Operations.{isOperand, sized, shiftOutcome}
+use Rattle.limbs.proofs.StageLaws.{refused-call, done-call, one-operand, none-refused, operand-legal}
+use Rattle.limbs.proofs.NumberLaws.{position-tested}
+use Rattle.limbs.proofs.ShiftCalls.{shift-right, shift-left}
 use borrow.Author.Needs.{needs}
 use Rattle.limbs.proofs.bitwise_shift.Statement.{statement}
 use Rattle.limbs.proofs.bitwise_shift.Tie as tie
-use Rattle.limbs.proofs.bitwise_shift.Reads as reads
-use Rattle.limbs.proofs.bitwise_shift.Lts as lts
-use Rattle.limbs.proofs.check.check_operands.Reads as check-operands-reads
-use Rattle.limbs.proofs.check.complement.Reads as complement-reads
-use Rattle.limbs.proofs.check.natural.Reads as natural-reads
-use Rattle.limbs.proofs.operand.move_left.Reads as move-left-reads
-use Rattle.limbs.proofs.operand.move_right.Reads as move-right-reads
-use Rattle.limbs.proofs.run.refuse.Reads as refuse-reads
 
--- src/lib.rt:165:9
+-- the distance, as the calls get it
+abbrev distance : tie.Start → ℤ
+distance a = toZ w64 (ofZ w64 (a .args .distance))
+
 check-operands-requires : tie.Need-check-operands-requires
 check-operands-requires c κs = search needs
 
--- src/lib.rt:167:9
 refuse-requires : tie.Need-refuse-requires
 refuse-requires c κs = search needs
 
--- src/lib.rt:167:9
 returns : tie.Need-returns
-returns c = ?
+unfolding shiftOutcome
+returns c = refused-call (one-operand _ (c .before .before .check-operands .ensures)) _ (c .before .if1 .taken) (c .refuse .ensures)
 
--- src/lib.rt:170:23
 complement-requires : tie.Need-complement-requires
-complement-requires c κs = ?
+complement-requires c κs = position-tested (distance (c .before .before .before .before .before)) refl ∙ ap not (c .if2 .taken)
 
--- src/lib.rt:170:23
 add-move-right : tie.Need-add-move-right
-add-move-right c = ?
+add-move-right c =
+    let f = c .before .before .before .before .before .before .fits .distance in
+    record { fits = omega (arith, ap mag (sym (back f) ∙ c .complement .ensures), f .sfits) }
 
--- src/lib.rt:170:9
+legal : (c : tie.Else1) → isOperand (c .before .before .before .before .args .x .now) ≡ true
+legal c =
+    operand-legal _ _ (none-refused (one-operand _ (c .before .check-operands .ensures)) (c .if1 .left) (integer (pos 0))) .0
+
 move-right-requires : tie.Need-move-right-requires
-move-right-requires c κs = ?
+move-right-requires c κs = legal (c .before .before .before)
 
--- src/lib.rt:172:22
 natural-requires : tie.Need-natural-requires
-natural-requires c κs = ?
+natural-requires c κs = position-tested (distance (c .before .before .before .before .before)) refl ∙ ap not (c .if2 .left)
 
--- src/lib.rt:172:9
 move-left-requires : tie.Need-move-left-requires
-move-left-requires c κs = ?
+move-left-requires c κs = legal (c .before .before .before)
 
--- src/lib.rt:162:1
 same-length : tie.Need-same-length
 same-length c = search needs
 
--- src/lib.rt:162:1
 returns-2 : tie.Need-returns-2
-returns-2 c = ?
+unfolding shiftOutcome
+returns-2 c =
+    let e = c .before .before .before .before in
+    let s = e .before .before in
+    let b = back (s .before .before .before .before .fits .distance) in
+    done-call (one-operand _ (s .before .check-operands .ensures)) (s .if1 .left)
+    (shift-right _ (legal s) (sym b ∙ e .complement .ensures))
+    (c .before .before .move-right .ensures)
 
--- src/lib.rt:162:1
 same-length-2 : tie.Need-same-length-2
 same-length-2 c = search needs
 
--- src/lib.rt:162:1
 returns-3 : tie.Need-returns-3
-returns-3 c = ?
+unfolding shiftOutcome
+returns-3 c =
+    let e = c .before .before .before .before in
+    let s = e .before .before in
+    let a = s .before .before .before .before in
+    let b = back (a .fits .distance) in
+    done-call (one-operand _ (s .before .check-operands .ensures)) (s .if1 .left)
+    (ap sized (shift-left (value (a .args .x .now)) (a .args .distance) (position-tested _ b ∙ ap not (e .before .if2 .left)) (e .natural .ensures ∙ ap natAbs b)))
+    (c .before .before .move-left .ensures)
 
 pub bitwise-shift-spec : {M : Type 1} → statement M
 bitwise-shift-spec =

@@ -1,40 +1,57 @@
+-- `limbs::bitwise_shift_left` meets its contract. Assumes nothing.
+use Prim.Native.Nat.{ℕ}
+use mathlib.Core.Path.{_≡_, sym, ap, _∙_}
+use mathlib.Core.Bool.{true}
+use lib.IntN.{pos, natAbs}
+use lib.Signed.{leZ}
+use mir.Syntax.{w64}
+use mir.Val.{toZ, ofZ}
+use Rattle.bits.specs.Shift.{shiftLeft}
+use Rattle.bits.proofs.WordLaws.{back}
+use Rattle.limbs.specs.Value.{value}
+use Rattle.limbs.specs.Operations.{isOperand, sized, shiftLeftOutcome}
+use Rattle.limbs.proofs.StageLaws.{refused-call, done-call}
+use Rattle.limbs.proofs.ShiftCalls.{count-legal}
 use borrow.Author.Needs.{needs}
 use Rattle.limbs.proofs.bitwise_shift_left.Statement.{statement}
 use Rattle.limbs.proofs.bitwise_shift_left.Tie as tie
-use Rattle.limbs.proofs.bitwise_shift_left.Reads as reads
-use Rattle.limbs.proofs.bitwise_shift_left.Lts as lts
-use Rattle.limbs.proofs.check.check_count.Reads as check-count-reads
-use Rattle.limbs.proofs.check.natural.Reads as natural-reads
-use Rattle.limbs.proofs.operand.move_left.Reads as move-left-reads
-use Rattle.limbs.proofs.run.refuse.Reads as refuse-reads
 
--- src/lib.rt:180:9
 check-count-requires : tie.Need-check-count-requires
 check-count-requires c κs = search needs
 
--- src/lib.rt:182:9
 refuse-requires : tie.Need-refuse-requires
 refuse-requires c κs = search needs
 
--- src/lib.rt:182:9
 returns : tie.Need-returns
-returns c = ?
+unfolding shiftLeftOutcome
+returns c =
+    let k = c .before .before in
+    refused-call (rw (back (k .before .before .before .fits .distance)) at (k .check-count .ensures)) _ (c .before .if1 .taken) (c .refuse .ensures)
 
--- src/lib.rt:184:18
+legal : (c : tie.Else1) → let a = c .before .before .before .before .args in
+    (isOperand (a .x .now) ≡ true) × (leZ (pos 0) (toZ w64 (ofZ w64 (a .distance))) ≡ true)
+legal c =
+    count-legal _ (toZ w64 (ofZ w64 (c .before .before .before .before .args .distance))) (c .before .check-count .ensures) (c .if1 .left)
+
 natural-requires : tie.Need-natural-requires
-natural-requires c κs = ?
+natural-requires c κs = legal c .1
 
--- src/lib.rt:184:5
 move-left-requires : tie.Need-move-left-requires
-move-left-requires c κs = ?
+move-left-requires c κs = legal (c .before .before) .0
 
--- src/lib.rt:177:1
 same-length : tie.Need-same-length
 same-length c = search needs
 
--- src/lib.rt:177:1
 returns-2 : tie.Need-returns-2
-returns-2 c = ?
+unfolding shiftLeftOutcome
+returns-2 c =
+    let n = c .before .before .before .before in
+    let k = n .before .before in
+    let a = k .before .before .before in
+    let b = back (a .fits .distance) in
+    done-call (rw b at (k .check-count .ensures)) (n .before .if1 .left)
+    (ap (λ (by : ℕ). sized (shiftLeft (value (a .args .x .now)) by)) (sym (n .natural .ensures ∙ ap natAbs b)))
+    (c .before .before .move-left .ensures)
 
 pub bitwise-shift-left-spec : {M : Type 1} → statement M
 bitwise-shift-left-spec =
