@@ -1,9 +1,9 @@
 -- The shifts of an operand: a distance of 32,768 is as good as any beyond it, and what a signed distance comes to. Assumes nothing.
 use Prim.Native.Nat.{ℕ, zero, zero-le, suc, _+_, _*_, _/_, _^_, _≤_, _<_}
 use native.Mathlib.Omega.{arith}
-use mathlib.Core.Path.{_≡_, refl, sym, ap, _∙_, subst}
+use mathlib.Core.Path.{_≡_, refl, sym, ap, ap₂, _∙_, subst}
 use mathlib.Core.Bool.{Bool, true, false, cond, true≢false}
-use mathlib.Core.List.{List}
+use mathlib.Core.List.{List, [], _∷_}
 use lib.Dec.{ltb}
 use lib.IntN.{ℤ, pos, negsuc, natAbs, pos-ne-negsuc}
 use lib.ListN.{length}
@@ -12,12 +12,14 @@ use borrow.Author.Tests.{le-leb, lt-leb}
 use Rattle.bits.specs.Testbit.{bitLength}
 use Rattle.bits.specs.Logical.{bitwiseNot}
 use Rattle.bits.specs.Shift.{shiftLeft, shiftRight, arithmeticShift}
+use Rattle.bits.specs.Division.{modℕ}
 use Rattle.bits.proofs.TestbitLaws.{by-lt}
-use Rattle.bits.proofs.ShiftLaws.{shiftLeft-zero-l}
-use Rattle.limbs.specs.Value.{value, limbCount}
+use Rattle.bits.proofs.ShiftLaws.{shiftRight-zero, shiftLeft-zero-l}
+use Rattle.bits.proofs.LengthLaws.{bitLength-le}
+use Rattle.limbs.specs.Value.{value, bitsFrom, limbsOf, limbCount}
 use Rattle.limbs.specs.Buffer.{Outcome, refused, integer, unless, Decides}
 use Rattle.limbs.specs.Operations.{mostLimbs, isOperand, operand, sized}
-use Rattle.limbs.proofs.ValueLaws.{pos-injective, value-length, limbCount-le}
+use Rattle.limbs.proofs.ValueLaws.{pos-injective, value-length, value-limbsOf, limbCount-le}
 use Rattle.limbs.proofs.LengthBounds.{shiftRight-length, shiftRight-beyond, shiftLeft-length, shiftLeft-length-exact}
 use Rattle.limbs.proofs.OutcomeLaws.{passed, failed, stage-passed}
 use Rattle.limbs.proofs.NumberLaws.{operand-lengths}
@@ -30,6 +32,11 @@ pub complement-mag : (d : ℤ) → leZ (pos 0) d ≡ false → (bitwiseNot d ≡
 unfolding bitwiseNot
 complement-mag (pos n) h = absurd (true≢false (sym (le-leb 0 n zero-le) ∙ h))
 complement-mag (negsuc n) h = (refl, refl)
+
+-- one that is not negative, as the code has it
+pub natural-pos : (d : ℤ) {r : ℕ} → leZ (pos 0) d ≡ true → r ≡ natAbs d → d ≡ pos r
+natural-pos (pos n) h e = ap pos (sym e)
+natural-pos (negsuc n) h e = absurd (true≢false (sym h))
 
 -- one that may not be negative, where nothing is refused
 pub count-legal : (xs : List ℕ) (d : ℤ) {k : ℕ} → Decides (λ o. operand xs (unless (leZ (pos 0) d) 5 o)) k → k ≡ 0
@@ -88,6 +95,10 @@ module _ (xs : List ℕ) (legal : isOperand xs ≡ true) where
   left-enough k = omega (arith, shiftLeft-length (value xs) k, value-length xs (legal-lengths .0))
 
   -- a signed distance
+  pub shift-left : {d : ℤ} {r : ℕ} → d ≡ pos r → sized (arithmeticShift (value xs) d) ≡ sized (shiftLeft (value xs) r)
+  unfolding arithmeticShift
+  shift-left e = ap (λ (d : ℤ). sized (arithmeticShift (value xs) d)) e
+
   pub shift-right : {d : ℤ} {r : ℕ} → d ≡ negsuc r → sized (arithmeticShift (value xs) d) ≡ integer (shiftRight (value xs) (r + 1))
   unfolding arithmeticShift
   shift-right {d} {r} e =
@@ -115,7 +126,18 @@ module _ (xs : List ℕ) (legal : isOperand xs ≡ true) where
     pub left-refused : {n : ℕ} → n ≡ limbCount (shiftLeft (value xs) r) → 1024 < n → sized (shiftLeft (value xs) by) ≡ refused 6
     left-refused q h = capped-left ∙ sized-refused (shiftLeft (value xs) r) (omega arith)
 
-pub shift-left : (z d : ℤ) {r : ℕ} → leZ (pos 0) d ≡ true → r ≡ natAbs d → arithmeticShift z d ≡ shiftLeft z r
-unfolding arithmeticShift
-shift-left z (pos n) h e = ap (shiftLeft z) (sym e)
-shift-left z (negsuc n) h e = absurd (true≢false (sym h))
+-- ---- a signed word as two limbs, which are written by a shift by 0
+
+module _ (v : ℤ) (h : mag v < 2 ^ 63) {low high : ℕ} (p : low ≡ bitsFrom v 0) (q : high ≡ bitsFrom v 32) where
+  word-length : bitLength v < 64
+  word-length = omega (arith, bitLength-le v 63 h)
+
+  pub word-shifted : shiftRight (value (low ∷ high ∷ [])) 0 ≡ v
+  unfolding bitsFrom limbsOf
+  word-shifted =
+      shiftRight-zero (value (low ∷ high ∷ []))
+      ∙ ap₂ (λ (m n : ℕ). value (m ∷ n ∷ [])) (p ∙ ap (λ (y : ℤ). modℕ y (2 ^ 32)) (shiftRight-zero v)) q
+      ∙ value-limbsOf 2 v word-length
+
+  pub word-enough : bitLength (shiftRight (value (low ∷ high ∷ [])) 0) < 64
+  word-enough = subst (λ (y : ℤ). bitLength y < 64) (sym word-shifted) word-length

@@ -7,12 +7,11 @@ use lib.Signed.{mag}
 use mir.Syntax.{w64}
 use mir.Val.{toZ, ofZ}
 use Rattle.bits.proofs.WordLaws.{back}
-use Rattle.limbs.specs.Value.{value}
 use Rattle.limbs.specs.Buffer.{integer}
-use Rattle.limbs.specs.Operations.{isOperand, sized, shiftOutcome}
+use Rattle.limbs.specs.Operations.{isOperand, shiftOutcome}
 use Rattle.limbs.proofs.StageLaws.{refused-call, done-call, one-operand, none-refused, operand-legal}
 use Rattle.limbs.proofs.NumberLaws.{position-tested}
-use Rattle.limbs.proofs.ShiftCalls.{shift-right, shift-left}
+use Rattle.limbs.proofs.ShiftCalls.{natural-pos, shift-left, shift-right}
 use borrow.Author.Needs.{needs}
 use Rattle.limbs.proofs.bitwise_shift.Statement.{statement}
 use Rattle.limbs.proofs.bitwise_shift.Tie as tie
@@ -76,7 +75,7 @@ returns-3 c =
     let a = s .before .before .before .before in
     let b = back (a .fits .distance) in
     done-call (one-operand _ (s .before .check-operands .ensures)) (s .if1 .left)
-    (ap sized (shift-left (value (a .args .x .now)) (a .args .distance) (position-tested _ b ∙ ap not (e .before .if2 .left)) (e .natural .ensures ∙ ap natAbs b)))
+    (shift-left _ (legal s) (natural-pos (a .args .distance) (position-tested _ b ∙ ap not (e .before .if2 .left)) (e .natural .ensures ∙ ap natAbs b)))
     (c .before .before .move-left .ensures)
 
 pub bitwise-shift-spec : {M : Type 1} → statement M
