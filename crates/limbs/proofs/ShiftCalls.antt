@@ -1,8 +1,9 @@
--- The shifts of an operand: a distance of 32,768 is as good as any beyond it, and what a signed distance comes to. Assumes nothing.
+-- The shifts of an operand: a distance of 32,768 is as good as any beyond it, and what a signed distance comes to. A signed word as two limbs.
+-- Assumes nothing.
 use Prim.Native.Nat.{ℕ, zero, zero-le, suc, _+_, _*_, _/_, _^_, _≤_, _<_}
 use native.Mathlib.Omega.{arith}
 use mathlib.Core.Path.{_≡_, refl, sym, ap, ap₂, _∙_, subst}
-use mathlib.Core.Bool.{Bool, true, false, cond, true≢false}
+use mathlib.Core.Bool.{true, false, cond, true≢false}
 use mathlib.Core.List.{List, [], _∷_}
 use lib.Dec.{ltb}
 use lib.IntN.{ℤ, pos, negsuc, natAbs, pos-ne-negsuc}
@@ -17,7 +18,7 @@ use Rattle.bits.proofs.TestbitLaws.{by-lt}
 use Rattle.bits.proofs.ShiftLaws.{shiftRight-zero, shiftLeft-zero-l}
 use Rattle.bits.proofs.LengthLaws.{bitLength-le}
 use Rattle.limbs.specs.Value.{value, bitsFrom, limbsOf, limbCount}
-use Rattle.limbs.specs.Buffer.{Outcome, refused, integer, unless, Decides}
+use Rattle.limbs.specs.Buffer.{refused, integer, unless, Decides}
 use Rattle.limbs.specs.Operations.{mostLimbs, isOperand, operand, sized}
 use Rattle.limbs.proofs.ValueLaws.{pos-injective, value-length, value-limbsOf, limbCount-le}
 use Rattle.limbs.proofs.LengthBounds.{shiftRight-length, shiftRight-beyond, shiftLeft-length, shiftLeft-length-exact}
@@ -47,11 +48,11 @@ count-legal xs d s e =
 
 -- ---- the size of a result
 
-pub sized-done : (z : ℤ) → limbCount z ≤ 1024 → sized z ≡ integer z
+sized-done : (z : ℤ) → limbCount z ≤ 1024 → sized z ≡ integer z
 unfolding sized mostLimbs
 sized-done z h = passed _ 6 (integer z) (le-leb (limbCount z) 1024 h)
 
-pub sized-refused : (z : ℤ) → 1024 < limbCount z → sized z ≡ refused 6
+sized-refused : (z : ℤ) → 1024 < limbCount z → sized z ≡ refused 6
 unfolding sized mostLimbs
 sized-refused z h = failed _ 6 (integer z) (lt-leb (limbCount z) 1024 h)
 

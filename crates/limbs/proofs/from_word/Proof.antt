@@ -1,8 +1,6 @@
 -- `limbs::from_word` meets its contract. Assumes nothing.
-use native.Mathlib.Omega.{arith}
-use mathlib.Core.Path.{_≡_, sym, ap, _∙_}
+use mathlib.Core.Path.{_≡_, sym, ap}
 use lib.Dec.{lit<}
-use lib.IntN.{ℤ}
 use Rattle.bits.proofs.WordLaws.{back}
 use Rattle.limbs.specs.Value.{bitsFrom}
 use Rattle.limbs.specs.Buffer.{integer}

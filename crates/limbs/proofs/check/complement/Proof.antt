@@ -1,5 +1,5 @@
 -- `limbs::check::complement` meets its contract. Assumes nothing.
-use mathlib.Core.Path.{_≡_, sym, ap, _∙_}
+use mathlib.Core.Path.{sym, ap, _∙_}
 use lib.IntN.{ℤ, negsuc, natAbs}
 use Rattle.bits.proofs.WordLaws.{not-word, cast-word}
 use Rattle.limbs.proofs.ShiftCalls.{complement-mag}

@@ -1,5 +1,5 @@
 -- `limbs::operand::capped` meets its contract. Assumes nothing.
-use mathlib.Core.Path.{_≡_, sym, ap}
+use mathlib.Core.Path.{sym, ap}
 use mathlib.Core.Bool.{Bool, cond}
 use borrow.Author.Tests.{lt-ltb, le-ltb}
 use Rattle.limbs.proofs.operand.capped.Statement.{statement}

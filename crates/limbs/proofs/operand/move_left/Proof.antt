@@ -51,7 +51,8 @@ unfolding meaning
 returns-2 c =
     let m = c .before .before .before .before .before in
     let a = m .before .before .before .before in
-    writes-as (left-done _ (a .pre) (a .args .by) (m .before .capped .ensures) (m .measure .ensures) (c .before .before .before .before .if1 .left)) (c .before .before .place .ensures)
+    let n = c .before .before .before .before .if1 .left in
+    writes-as (left-done _ (a .pre) (a .args .by) (m .before .capped .ensures) (m .measure .ensures) n) (c .before .before .place .ensures)
 
 pub move-left-spec : {M : Type 1} → statement M
 move-left-spec =

@@ -1,6 +1,6 @@
 -- `limbs::signed::word_bits` meets its contract. Assumes nothing.
 use Prim.Native.Nat.{ℕ, _-_}
-use mathlib.Core.Path.{_≡_, refl, sym, ap, _∙_}
+use mathlib.Core.Path.{refl, sym, ap, _∙_}
 use mathlib.Core.Bool.{not}
 use lib.IntN.{ℤ, pos, natAbs}
 use mir.Syntax.{w64}
