@@ -13,6 +13,7 @@ pub mod RotationCounts
 pub mod CountLimbs
 pub mod OutcomeLaws
 pub mod StageLaws
+pub mod ShiftCalls
 pub mod NumberLaws
 pub mod Demand3
 pub mod Cases

@@ -6,7 +6,7 @@
 // A refused call changes nothing.
 ghost use mathlib.Core.Path.{_≡_};
 ghost use mathlib.Core.Bool.{_&&_, _||_, xor};
-ghost use Rattle.limbs.specs.Buffer.{Writes, number};
+ghost use Rattle.limbs.specs.Buffer.{Writes, integer, number};
 ghost use Rattle.limbs.specs.Operations.{notOutcome, bitwiseOutcome, ifOutcome, copyBitOutcome, bitFieldOutcome, copyBitFieldOutcome, shiftOutcome, shiftLeftOutcome, shiftRightOutcome, rotateOutcome, reverseOutcome, bitCountOutcome, lengthOutcome, firstBitSetOutcome, bitSetOutcome, wordOutcome};
 
 mod check;
@@ -53,6 +53,7 @@ use run::run;
 use signed::done;
 use signed::refuse_number;
 use signed::word;
+use signed::word_bits;
 
 // What a call answers that writes an integer: a refusal number, 0 for done, and how many limbs it has written.
 pub struct Written {
@@ -278,4 +279,20 @@ pub fn to_word(x: &[u32]) -> Number
         return refuse_number(6);
     }
     done(word(x))
+}
+
+// One signed 64-bit word as limbs.
+pub fn from_word(v: i64, out: &mut [u32], first: u64) -> Written
+    ensures { λ r. ⌜ Writes (integer v) (now (out .entry)) first r (now (out .exit)) ⌝ }
+{
+    let limbs = [word_bits(v, 0), word_bits(v, 32)];
+    run(
+        Operation::ShiftRight { by: 0 },
+        &limbs,
+        &limbs,
+        &limbs,
+        2,
+        out,
+        first,
+    )
 }

@@ -151,8 +151,10 @@ pub fn move_left(x: &[u32], by: u64, out: &mut [u32], first: u64) -> Written
     requires { ⌜ isOperand (now x) ≡ true ⌝ }
     ensures { λ r. ⌜ Writes (sized (shiftLeft (value (now (x .entry))) by)) (now (out .entry)) first r (now (out .exit)) ⌝ }
 {
-    let operation = Operation::ShiftLeft { by: capped(by) };
-    let n = measure(operation, x, x, x, x.len() + MOST_LIMBS + 1);
+    let distance = capped(by);
+    let operation = Operation::ShiftLeft { by: distance };
+    let enough = x.len() + (distance / 32) as usize + 1;
+    let n = measure(operation, x, x, x, enough);
     if MOST_LIMBS < n {
         return refuse(6);
     }

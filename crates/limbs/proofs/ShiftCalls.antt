@@ -1,0 +1,144 @@
+-- The shifts of an operand: a distance of 32,768 is as good as any beyond it, and what a signed distance comes to. A signed word as two limbs.
+-- Assumes nothing.
+use Prim.Native.Nat.{ℕ, zero, zero-le, suc, _+_, _*_, _/_, _^_, _≤_, _<_}
+use native.Mathlib.Omega.{arith}
+use mathlib.Core.Path.{_≡_, refl, sym, ap, ap₂, _∙_, subst}
+use mathlib.Core.Bool.{true, false, cond, true≢false}
+use mathlib.Core.List.{List, [], _∷_}
+use lib.Dec.{ltb}
+use lib.IntN.{ℤ, pos, negsuc, natAbs, pos-ne-negsuc}
+use lib.ListN.{length}
+use lib.Signed.{mag, leZ}
+use borrow.Author.Tests.{le-leb, lt-leb}
+use Rattle.bits.specs.Testbit.{bitLength}
+use Rattle.bits.specs.Logical.{bitwiseNot}
+use Rattle.bits.specs.Shift.{shiftLeft, shiftRight, arithmeticShift}
+use Rattle.bits.specs.Division.{modℕ}
+use Rattle.bits.proofs.TestbitLaws.{by-lt}
+use Rattle.bits.proofs.ShiftLaws.{shiftRight-zero, shiftLeft-zero-l}
+use Rattle.bits.proofs.LengthLaws.{bitLength-le}
+use Rattle.limbs.specs.Value.{value, bitsFrom, limbsOf, limbCount}
+use Rattle.limbs.specs.Buffer.{refused, integer, unless, Decides}
+use Rattle.limbs.specs.Operations.{mostLimbs, isOperand, operand, sized}
+use Rattle.limbs.proofs.ValueLaws.{pos-injective, value-length, value-limbsOf, limbCount-le}
+use Rattle.limbs.proofs.LengthBounds.{shiftRight-length, shiftRight-beyond, shiftLeft-length, shiftLeft-length-exact}
+use Rattle.limbs.proofs.OutcomeLaws.{passed, failed, stage-passed}
+use Rattle.limbs.proofs.NumberLaws.{operand-lengths}
+use Rattle.limbs.proofs.StageLaws.{none-refused, operand-legal}
+
+-- ---- a distance
+
+-- a negative one and its complement
+pub complement-mag : (d : ℤ) → leZ (pos 0) d ≡ false → (bitwiseNot d ≡ pos (mag d)) × (d ≡ negsuc (mag d))
+unfolding bitwiseNot
+complement-mag (pos n) h = absurd (true≢false (sym (le-leb 0 n zero-le) ∙ h))
+complement-mag (negsuc n) h = (refl, refl)
+
+-- one that is not negative, as the code has it
+pub natural-pos : (d : ℤ) {r : ℕ} → leZ (pos 0) d ≡ true → r ≡ natAbs d → d ≡ pos r
+natural-pos (pos n) h e = ap pos (sym e)
+natural-pos (negsuc n) h e = absurd (true≢false (sym h))
+
+-- one that may not be negative, where nothing is refused
+pub count-legal : (xs : List ℕ) (d : ℤ) {k : ℕ} → Decides (λ o. operand xs (unless (leZ (pos 0) d) 5 o)) k → k ≡ 0
+    → (isOperand xs ≡ true) × (leZ (pos 0) d ≡ true)
+count-legal xs d s e =
+    let a = operand-legal xs _ (none-refused s e (integer (pos 0))) in
+    (a .0, stage-passed (leZ (pos 0) d) 5 (integer (pos 0)) (a .1) .0)
+
+-- ---- the size of a result
+
+sized-done : (z : ℤ) → limbCount z ≤ 1024 → sized z ≡ integer z
+unfolding sized mostLimbs
+sized-done z h = passed _ 6 (integer z) (le-leb (limbCount z) 1024 h)
+
+sized-refused : (z : ℤ) → 1024 < limbCount z → sized z ≡ refused 6
+unfolding sized mostLimbs
+sized-refused z h = failed _ 6 (integer z) (lt-leb (limbCount z) 1024 h)
+
+-- ---- a distance beyond the largest length
+
+beyond-refused : (z : ℤ) (k : ℕ) → 32768 ≤ k → (z ≡ pos 0 → ⊥) → sized (shiftLeft z k) ≡ refused 6
+unfolding limbCount
+beyond-refused z k l h = sized-refused (shiftLeft z k) (omega (arith, shiftLeft-length-exact z k h))
+
+both-refused : (z : ℤ) (k : ℕ) → 32768 ≤ k → (z ≡ pos 0 → ⊥) → sized (shiftLeft z 32768) ≡ sized (shiftLeft z k)
+both-refused z k l h = beyond-refused z 32768 (omega arith) h ∙ sym (beyond-refused z k l h)
+
+-- 0 stays 0, and everything else is too long
+beyond-same : (z : ℤ) (k : ℕ) → 32768 ≤ k → sized (shiftLeft z 32768) ≡ sized (shiftLeft z k)
+beyond-same (pos zero) k l = ap sized (shiftLeft-zero-l 32768 ∙ sym (shiftLeft-zero-l k))
+beyond-same (pos (suc n)) k l = both-refused (pos (suc n)) k l (λ e. omega (arith, pos-injective (suc n) 0 e))
+beyond-same (negsuc n) k l = both-refused (negsuc n) k l (λ e. pos-ne-negsuc 0 n (sym e))
+
+-- ---- the shifts of an operand, by a distance that is capped
+
+-- the contract of the code's `capped`
+abbrev Capped : ℕ → ℕ → Type 0
+Capped by r = r ≡ cond (ltb by 32768) by 32768
+
+-- a property of the capped distance: of one that is short enough, and of 32,768 where the distance is at least that
+by-cap : (P : ℕ → Type 0) (by : ℕ) {r : ℕ} → Capped by r → (by < 32768 → P by) → (32768 ≤ by → P 32768) → P r
+by-cap P by e short long = subst P (sym e) (by-lt (λ b. P (cond b by 32768)) by 32768 short long)
+
+pub capped-le : (by : ℕ) {r : ℕ} → Capped by r → r ≤ 32768
+capped-le by e = by-cap (λ k. k ≤ 32768) by e (λ h. omega arith) (λ h. omega arith)
+
+module _ (xs : List ℕ) (legal : isOperand xs ≡ true) where
+  pub legal-lengths : (0 < length xs) × (length xs ≤ 1024)
+  legal-lengths = operand-lengths xs (sym legal) refl
+
+  -- a right shift needs no more limbs
+  pub right-enough : (k : ℕ) → bitLength (shiftRight (value xs) k) < 32 * length xs
+  right-enough k = omega (arith, shiftRight-length (value xs) k, value-length xs (legal-lengths .0))
+
+  pub left-enough : (k : ℕ) → bitLength (shiftLeft (value xs) k) < 32 * (length xs + k / 32 + 1)
+  left-enough k = omega (arith, shiftLeft-length (value xs) k, value-length xs (legal-lengths .0))
+
+  -- a signed distance
+  pub shift-left : {d : ℤ} {r : ℕ} → d ≡ pos r → sized (arithmeticShift (value xs) d) ≡ sized (shiftLeft (value xs) r)
+  unfolding arithmeticShift
+  shift-left e = ap (λ (d : ℤ). sized (arithmeticShift (value xs) d)) e
+
+  pub shift-right : {d : ℤ} {r : ℕ} → d ≡ negsuc r → sized (arithmeticShift (value xs) d) ≡ integer (shiftRight (value xs) (r + 1))
+  unfolding arithmeticShift
+  shift-right {d} {r} e =
+      let l = limbCount-le (shiftRight (value xs) (r + 1)) (length xs) (right-enough (r + 1)) in
+      let n : suc r ≡ r + 1 = omega arith in
+      ap (λ (d : ℤ). sized (arithmeticShift (value xs) d)) e
+      ∙ ap (λ (k : ℕ). sized (shiftRight (value xs) k)) n
+      ∙ sized-done (shiftRight (value xs) (r + 1)) (omega (arith, l, legal-lengths .1))
+
+  module _ (by : ℕ) {r : ℕ} (e : Capped by r) where
+    pub capped-right : shiftRight (value xs) by ≡ shiftRight (value xs) r
+    capped-right =
+        by-cap (λ k. shiftRight (value xs) by ≡ shiftRight (value xs) k) by e (λ h. refl)
+        (shiftRight-beyond (value xs) 32768 by (omega (arith, value-length xs (legal-lengths .0), legal-lengths .1)))
+
+    capped-left : sized (shiftLeft (value xs) by) ≡ sized (shiftLeft (value xs) r)
+    capped-left =
+        by-cap (λ k. sized (shiftLeft (value xs) by) ≡ sized (shiftLeft (value xs) k)) by e (λ h. refl)
+        (λ h. sym (beyond-same (value xs) by h))
+
+    -- by the number of limbs that the code has measured
+    pub left-done : {n : ℕ} → n ≡ limbCount (shiftLeft (value xs) r) → n ≤ 1024 → sized (shiftLeft (value xs) by) ≡ integer (shiftLeft (value xs) r)
+    left-done q h = capped-left ∙ sized-done (shiftLeft (value xs) r) (omega arith)
+
+    pub left-refused : {n : ℕ} → n ≡ limbCount (shiftLeft (value xs) r) → 1024 < n → sized (shiftLeft (value xs) by) ≡ refused 6
+    left-refused q h = capped-left ∙ sized-refused (shiftLeft (value xs) r) (omega arith)
+
+-- ---- a signed word as two limbs, which are written by a shift by 0
+
+module _ (v : ℤ) (h : mag v < 2 ^ 63) {low high : ℕ} (p : low ≡ bitsFrom v 0) (q : high ≡ bitsFrom v 32) where
+  word-length : bitLength v < 64
+  word-length = omega (arith, bitLength-le v 63 h)
+
+  pub word-shifted : shiftRight (value (low ∷ high ∷ [])) 0 ≡ v
+  unfolding bitsFrom limbsOf
+  word-shifted =
+      shiftRight-zero (value (low ∷ high ∷ []))
+      ∙ ap₂ (λ (m n : ℕ). value (m ∷ n ∷ [])) (p ∙ ap (λ (y : ℤ). modℕ y (2 ^ 32)) (shiftRight-zero v)) q
+      ∙ value-limbsOf 2 v word-length
+
+  pub word-enough : bitLength (shiftRight (value (low ∷ high ∷ [])) 0) < 64
+  word-enough = subst (λ (y : ℤ). bitLength y < 64) (sym word-shifted) word-length

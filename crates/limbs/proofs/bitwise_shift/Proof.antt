@@ -1,0 +1,96 @@
+-- `limbs::bitwise_shift` meets its contract. Assumes nothing.
+use native.Mathlib.Omega.{arith}
+use mathlib.Core.Path.{_≡_, refl, sym, ap, _∙_}
+use mathlib.Core.Bool.{true, not}
+use lib.IntN.{ℤ, pos, natAbs}
+use lib.Signed.{mag}
+use mir.Syntax.{w64}
+use mir.Val.{toZ, ofZ}
+use Rattle.bits.proofs.WordLaws.{back}
+use Rattle.limbs.specs.Buffer.{integer}
+use Rattle.limbs.specs.Operations.{isOperand, shiftOutcome}
+use Rattle.limbs.proofs.StageLaws.{refused-call, done-call, one-operand, none-refused, operand-legal}
+use Rattle.limbs.proofs.NumberLaws.{position-tested}
+use Rattle.limbs.proofs.ShiftCalls.{natural-pos, shift-left, shift-right}
+use borrow.Author.Needs.{needs}
+use Rattle.limbs.proofs.bitwise_shift.Statement.{statement}
+use Rattle.limbs.proofs.bitwise_shift.Tie as tie
+
+-- the distance, as the calls get it
+abbrev distance : tie.Start → ℤ
+distance a = toZ w64 (ofZ w64 (a .args .distance))
+
+check-operands-requires : tie.Need-check-operands-requires
+check-operands-requires c κs = search needs
+
+refuse-requires : tie.Need-refuse-requires
+refuse-requires c κs = search needs
+
+returns : tie.Need-returns
+unfolding shiftOutcome
+returns c = refused-call (one-operand _ (c .before .before .check-operands .ensures)) _ (c .before .if1 .taken) (c .refuse .ensures)
+
+complement-requires : tie.Need-complement-requires
+complement-requires c κs = position-tested (distance (c .before .before .before .before .before)) refl ∙ ap not (c .if2 .taken)
+
+add-move-right : tie.Need-add-move-right
+add-move-right c =
+    let f = c .before .before .before .before .before .before .fits .distance in
+    record { fits = omega (arith, ap mag (sym (back f) ∙ c .complement .ensures), f .sfits) }
+
+legal : (c : tie.Else1) → isOperand (c .before .before .before .before .args .x .now) ≡ true
+legal c =
+    operand-legal _ _ (none-refused (one-operand _ (c .before .check-operands .ensures)) (c .if1 .left) (integer (pos 0))) .0
+
+move-right-requires : tie.Need-move-right-requires
+move-right-requires c κs = legal (c .before .before .before)
+
+natural-requires : tie.Need-natural-requires
+natural-requires c κs = position-tested (distance (c .before .before .before .before .before)) refl ∙ ap not (c .if2 .left)
+
+move-left-requires : tie.Need-move-left-requires
+move-left-requires c κs = legal (c .before .before .before)
+
+same-length : tie.Need-same-length
+same-length c = search needs
+
+returns-2 : tie.Need-returns-2
+unfolding shiftOutcome
+returns-2 c =
+    let e = c .before .before .before .before in
+    let s = e .before .before in
+    let b = back (s .before .before .before .before .fits .distance) in
+    done-call (one-operand _ (s .before .check-operands .ensures)) (s .if1 .left)
+    (shift-right _ (legal s) (sym b ∙ e .complement .ensures))
+    (c .before .before .move-right .ensures)
+
+same-length-2 : tie.Need-same-length-2
+same-length-2 c = search needs
+
+returns-3 : tie.Need-returns-3
+unfolding shiftOutcome
+returns-3 c =
+    let e = c .before .before .before .before in
+    let s = e .before .before in
+    let a = s .before .before .before .before in
+    let b = back (a .fits .distance) in
+    done-call (one-operand _ (s .before .check-operands .ensures)) (s .if1 .left)
+    (shift-left _ (legal s) (natural-pos (a .args .distance) (position-tested _ b ∙ ap not (e .before .if2 .left)) (e .natural .ensures ∙ ap natAbs b)))
+    (c .before .before .move-left .ensures)
+
+pub bitwise-shift-spec : {M : Type 1} → statement M
+bitwise-shift-spec =
+    tie.close
+    (tie.spec
+    check-operands-requires
+    refuse-requires
+    returns
+    complement-requires
+    add-move-right
+    move-right-requires
+    natural-requires
+    move-left-requires
+    same-length
+    returns-2
+    same-length-2
+    returns-3)

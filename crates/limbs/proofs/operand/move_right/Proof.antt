@@ -1,0 +1,33 @@
+-- `limbs::operand::move_right` meets its contract. Assumes nothing.
+use native.Mathlib.Omega.{arith}
+use mathlib.Core.Path.{ap}
+use Rattle.limbs.specs.Buffer.{integer}
+use Rattle.limbs.specs.Results.{meaning, Proper}
+use Rattle.limbs.proofs.OutcomeLaws.{writes-as}
+use Rattle.limbs.proofs.ShiftCalls.{legal-lengths, right-enough, capped-le, capped-right}
+use borrow.Author.Needs.{needs}
+use Rattle.limbs.proofs.operand.move_right.Statement.{statement}
+use Rattle.limbs.proofs.operand.move_right.Tie as tie
+
+capped-requires : tie.Need-capped-requires
+capped-requires c κs = search needs
+
+run-requires : tie.Need-run-requires
+unfolding meaning Proper
+run-requires c κs =
+    let a = c .before .before .before .before in
+    let n = legal-lengths _ (a .pre) in
+    let r = capped-le (a .args .by) (c .before .capped .ensures) in
+    (n .0, (n .0, (n .0, ((omega arith, (n .0, omega (arith, n .1))), right-enough _ (a .pre) _))))
+
+same-length : tie.Need-same-length
+same-length c = search needs
+
+returns : tie.Need-returns
+unfolding meaning
+returns c =
+    let a = c .before .before .before .before .before .before .before in
+    writes-as (ap integer (capped-right _ (a .pre) (a .args .by) (c .before .before .before .before .capped .ensures))) (c .before .before .run .ensures)
+
+pub move-right-spec : {M : Type 1} → statement M
+move-right-spec = tie.close (tie.spec capped-requires run-requires same-length returns)
