@@ -33,9 +33,19 @@ run-requires c κs =
     let y = operand-length _ (l .1 .0) in
     let z = operand-length _ (l .1 .1) in
     let inner = c .before .before .most .ensures in
-    let n = c .before .most2 .ensures in
-    (x, (y, (z, ((tt, (omega arith, omega (arith, operand-most _ (l .0), operand-most _ (l .1 .0), operand-most _ (l .1 .1)))),
-    if-enough _ _ _ _ x y z (n .0 .0) (omega arith) (omega arith)))))
+    let n = c .before .most2 .ensures in (
+      x,
+      (
+        y,
+        (
+          z,
+          (
+            (tt, (omega arith, omega (arith, operand-most _ (l .0), operand-most _ (l .1 .0), operand-most _ (l .1 .1)))),
+            if-enough _ _ _ _ x y z (n .0 .0) (omega arith) (omega arith),
+          ),
+        ),
+      ),
+    )
 
 same-length : tie.Need-same-length
 same-length c = search needs

@@ -25,14 +25,18 @@ returns c = record { so = λ o. decided (c .before) .so _ ∙ checked-refused _ 
 returns-2 : tie.Need-returns-2
 unfolding checked
 returns-2 c =
-    record { so = λ o. decided (c .before .before) .so _ ∙ checked-none _ (c .before .if1 .left)
-    ∙ passed _ 5 o (sym (ap (leZ (pos 0)) (back (c .before .before .before .before .fits .count))) ∙ c .if2 .taken) }
+    record {
+      so = λ o. decided (c .before .before) .so _ ∙ checked-none _ (c .before .if1 .left)
+          ∙ passed _ 5 o (sym (ap (leZ (pos 0)) (back (c .before .before .before .before .fits .count))) ∙ c .if2 .taken);
+    }
 
 returns-3 : tie.Need-returns-3
 unfolding checked
 returns-3 c =
-    record { so = λ o. decided (c .before .before) .so _ ∙ checked-none _ (c .before .if1 .left)
-    ∙ failed _ 5 o (sym (ap (leZ (pos 0)) (back (c .before .before .before .before .fits .count))) ∙ c .if2 .left) }
+    record {
+      so = λ o. decided (c .before .before) .so _ ∙ checked-none _ (c .before .if1 .left)
+          ∙ failed _ 5 o (sym (ap (leZ (pos 0)) (back (c .before .before .before .before .fits .count))) ∙ c .if2 .left);
+    }
 
 pub check-rotation-spec : {M : Type 1} → statement M
 check-rotation-spec = tie.close (tie.spec check-field-requires returns returns-2 returns-3)

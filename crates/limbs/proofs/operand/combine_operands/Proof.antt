@@ -28,9 +28,19 @@ run-requires c κs =
     let l = legal-two (c .before .before .if1 .left) _ _ (two-operands _ _ (c .before .before .before .check-operands .ensures)) in
     let x = operand-length _ (l .0) in
     let y = operand-length _ (l .1) in
-    let n = c .before .most .ensures in
-    (x, (y, (x, ((tt, (omega arith, omega (arith, operand-most _ (l .0), operand-most _ (l .1)))),
-    bitwise-enough (logicOf (c .before .before .before .before .before .before .before .args .by)) _ _ _ x y (n .0 .0) (n .0 .1)))))
+    let n = c .before .most .ensures in (
+      x,
+      (
+        y,
+        (
+          x,
+          (
+            (tt, (omega arith, omega (arith, operand-most _ (l .0), operand-most _ (l .1)))),
+            bitwise-enough (logicOf (c .before .before .before .before .before .before .before .args .by)) _ _ _ x y (n .0 .0) (n .0 .1),
+          ),
+        ),
+      ),
+    )
 
 same-length : tie.Need-same-length
 same-length c = search needs

@@ -19,9 +19,19 @@ run-requires c κs =
     let a = c .before .before .before .before .before in
     let x = operand-length _ (a .pre .0 .0) in
     let n = c .before .enough-for .ensures in
-    let l = value-length (a .args .x .now) x in
-    (x, (operand-length _ (a .pre .0 .1), (x, (((a .pre .1 .0, omega arith), (omega arith, omega (arith, operand-most _ (a .pre .0 .0)))),
-    omega (arith, copyBitField-length (value (a .args .x .now)) (a .args .start) (a .args .end) (value (a .args .y .now)) (32 * c .before .enough-for .result - 1) (omega arith) (omega arith))))))
+    let l = value-length (a .args .x .now) x in (
+      x,
+      (
+        operand-length _ (a .pre .0 .1),
+        (
+          x,
+          (
+            ((a .pre .1 .0, omega arith), (omega arith, omega (arith, operand-most _ (a .pre .0 .0)))),
+            omega (arith, copyBitField-length (value (a .args .x .now)) (a .args .start) (a .args .end) (value (a .args .y .now)) (32 * c .before .enough-for .result - 1) (omega arith) (omega arith)),
+          ),
+        ),
+      ),
+    )
 
 same-length : tie.Need-same-length
 same-length c = search needs

@@ -30,9 +30,19 @@ run-requires c κs =
     let x = operand-length _ (a .pre .0) in
     let n = c .before .enough-for .ensures in
     let l = value-length (a .args .x .now) x in
-    let by = c .before .before .reduced .ensures in
-    (x, (x, (x, ((((a .pre .1 .0, omega arith), reduced-le _ _ by), (omega arith, omega (arith, operand-most _ (a .pre .0)))),
-    omega (arith, rotateBitField-length (value (a .args .x .now)) (a .args .start) (a .args .end) (pos (c .before .before .reduced .result)) (32 * c .before .enough-for .result - 1) (omega arith) (omega arith))))))
+    let by = c .before .before .reduced .ensures in (
+      x,
+      (
+        x,
+        (
+          x,
+          (
+            (((a .pre .1 .0, omega arith), reduced-le _ _ by), (omega arith, omega (arith, operand-most _ (a .pre .0)))),
+            omega (arith, rotateBitField-length (value (a .args .x .now)) (a .args .start) (a .args .end) (pos (c .before .before .reduced .result)) (32 * c .before .enough-for .result - 1) (omega arith) (omega arith)),
+          ),
+        ),
+      ),
+    )
 
 same-length : tie.Need-same-length
 same-length c = search needs

@@ -18,9 +18,19 @@ run-requires : tie.Need-run-requires
 unfolding meaning Proper
 run-requires c κs =
     let a = c .before .before .before in
-    let x = operand-length _ (a .pre .0) in
-    (x, (x, (x, (((a .pre .1 .0, omega arith), (omega arith, omega arith)),
-    omega (arith, bitField-length (value (a .args .x .now)) (a .args .start) (a .args .end))))))
+    let x = operand-length _ (a .pre .0) in (
+      x,
+      (
+        x,
+        (
+          x,
+          (
+            ((a .pre .1 .0, omega arith), (omega arith, omega arith)),
+            omega (arith, bitField-length (value (a .args .x .now)) (a .args .start) (a .args .end)),
+          ),
+        ),
+      ),
+    )
 
 same-length : tie.Need-same-length
 same-length c = search needs
