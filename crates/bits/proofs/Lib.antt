@@ -22,6 +22,8 @@ pub mod CountLaws
 pub mod CountWords
 pub mod ListTheorem
 pub mod FitsLaws
+pub mod LengthBounds
+pub mod RotationCounts
 pub mod WordLaws
 pub mod Samples
 pub mod Cases

@@ -3,7 +3,7 @@
 use Prim.Native.Nat.{ℕ, zero, zero-le, suc, _+_, _-_, _<_, _^_}
 use native.Mathlib.Omega.{arith}
 use mathlib.Core.Path.{_≡_, refl, sym, ap, _∙_, subst}
-use mathlib.Core.Bool.{Bool, true, false, cond}
+use mathlib.Core.Bool.{Bool, true, false, cond, not, true≢false}
 use lib.Dec.{T, leb, ltb}
 use lib.Pow.{pow-pos}
 use lib.IntN.{ℤ, pos, negsuc, negℤ, natAbs}
@@ -59,8 +59,10 @@ pub natural-mag : (x : ℤ) → leZ (pos 0) x ≡ true → x ≡ pos (mag x)
 natural-mag (pos n) h = refl
 natural-mag (negsuc n) h = let z : _≡_ {A = ℕ} 0 1 = cc in absurd (omega arith)
 
-pub natural-natAbs : (x : ℤ) → leZ (pos 0) x ≡ true → x ≡ pos (natAbs x)
-natural-natAbs x h = natural-mag x h ∙ ap (λ (y : ℤ). pos (natAbs y)) (sym (natural-mag x h))
+-- one that is not negative, as the code has it
+pub natural-pos : (d : ℤ) {r : ℕ} → leZ (pos 0) d ≡ true → r ≡ natAbs d → d ≡ pos r
+natural-pos (pos n) h e = ap pos (sym e)
+natural-pos (negsuc n) h e = absurd (true≢false (sym h))
 
 -- what the cast of a signed word to an unsigned one asks, and what it gives
 pub cast-word : {z : ℤ} {m : ℕ} → z ≡ pos m → m < 2 ^ 63 → T (nonNeg z) × Fits w64 (natAbs z)
@@ -110,3 +112,29 @@ fits-negative w (suc n) = refl
 pub fits-nonnegative : (w n : ℕ) → fits w (withSign false n) ≡ ltb n (2 ^ (w - 1))
 unfolding fits withSign
 fits-nonnegative w n = refl
+
+-- a negative one and its complement
+pub complement-mag : (d : ℤ) → leZ (pos 0) d ≡ false → (bitwiseNot d ≡ pos (mag d)) × (d ≡ negsuc (mag d))
+unfolding bitwiseNot
+complement-mag (pos n) h = absurd (true≢false (sym (le-leb 0 n zero-le) ∙ h))
+complement-mag (negsuc n) h = (refl, refl)
+
+-- ---- a position, from the number q that its bits are, read as signed
+
+not-below : (k : ℤ) → leZ (pos 0) k ≡ not (ltZ k (pos 0))
+not-below (pos n) = le-leb 0 n zero-le ∙ sym (ap not (le-ltb n 0 zero-le))
+not-below (negsuc n) = refl
+
+natural : (k : ℤ) → mag k < 2 ^ 63 → ltZ k (pos 0) ≡ false → T (nonNeg k) × (natAbs k < 2 ^ 63)
+natural (pos n) h e = (tt, h)
+natural (negsuc n) h e = absurd (true≢false e)
+
+module _ (k : ℤ) {q : ℤ} (e : q ≡ k) where
+  -- the code's test is that of the domain
+  pub position-tested : leZ (pos 0) k ≡ not (ltZ q (pos 0))
+  position-tested = not-below k ∙ ap (λ (y : ℤ). not (ltZ y (pos 0))) (sym e)
+
+  -- what the cast to an unsigned word asks, and what it gives
+  pub position-natural : mag k < 2 ^ 63 → ltZ q (pos 0) ≡ false → T (nonNeg q) × (natAbs q < 2 ^ 63)
+  position-natural h t =
+      subst (λ (y : ℤ). T (nonNeg y) × (natAbs y < 2 ^ 63)) (sym e) (natural k h (ap (λ (y : ℤ). ltZ y (pos 0)) (sym e) ∙ t))

@@ -14,9 +14,9 @@ use Rattle.bits.specs.Division.{modℕ}
 use Rattle.bits.proofs.ShiftLaws.{shiftRight-zero, shiftRight-compose}
 use borrow.Author.Tests.{le-leb, lt-leb, ltb-true, ltb-false, eqb-true, eqb-false}
 use borrow.Rule.Slice.PartMut.{putMid}
-use Rattle.limbs.specs.Value.{bitsFrom, limbAt, limbsOf, limbCount, shortest}
+use Rattle.limbwords.specs.Value.{bitsFrom, limbAt, limbsOf, limbCount, shortest}
 use Rattle.limbs.specs.Buffer.{Puts, integer, room, laid, fitsIn, refusal, written, afterwards}
-use Rattle.limbs.proofs.ValueLaws.{length-limbsOf, length-shortest}
+use Rattle.limbwords.proofs.ValueLaws.{length-limbsOf, length-shortest}
 
 -- the limbs of an integer, one by one
 pub getD-limbsOf : (k : ℕ) (z : ℤ) (j : ℕ) → j < k → getD (limbsOf k z) j 0 ≡ limbAt z j

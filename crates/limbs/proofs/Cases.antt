@@ -12,7 +12,7 @@ use Rattle.bits.specs.Division.{modℕ, «mod»}
 use Rattle.bits.specs.Field.{inField, setField, permuteField, rotateIndex, reverseIndex, rotateBitField, reverseBitField}
 use Rattle.bits.specs.FieldList.{rotate, reverse, countCall, netCountFrom, netCount}
 use Rattle.bits.specs.Count.{onesBelow, ones, bitCount, firstTrue, firstBitSet}
-use Rattle.limbs.specs.Value.{onTop, value, limbsOf, limbCount, shortest}
+use Rattle.limbwords.specs.Value.{onTop, value, limbsOf, limbCount, shortest}
 use Rattle.limbs.specs.Buffer.{Outcome, refused, integer, unless, room, laid, fitsIn, refusal, written, afterwards, number}
 use Rattle.bits.specs.Range.{within}
 use Rattle.limbs.specs.Operations.{mostLimbs, isOperand, operand, field, sized, notOutcome, bitwiseOutcome, shiftOutcome, rotateOutcome, reverseOutcome, bitCountOutcome, lengthOutcome, firstBitSetOutcome, bitSetOutcome, wordOutcome}

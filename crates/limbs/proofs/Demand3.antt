@@ -22,11 +22,11 @@ use Rattle.bits.proofs.LengthLaws.{fits-length, fits-not}
 use Rattle.bits.proofs.FitsLaws.{is-true, holds, pow-fits, bitwise-fits}
 use Rattle.bits.proofs.ListTheorem.{ListLaw, list-theorem, calls-fit}
 use Rattle.limbs.specs.declared.Written.{Written}
-use Rattle.limbs.specs.Value.{value, limbCount, shortest}
+use Rattle.limbwords.specs.Value.{value, limbCount, shortest}
 use Rattle.limbs.specs.Buffer.{Outcome, integer, unless, room, laid, fitsIn, refusal, written, afterwards}
 use Rattle.limbs.specs.Operations.{mostLimbs, isOperand, field, notOutcome, bitwiseOutcome, rotateOutcome, reverseOutcome, bitCountOutcome}
 use Rattle.limbs.specs.Lists.{Step, callsOf, outcomeOf, answerOf, handOn, hasRoom, runSteps, isDone, anyDone, resultOf, turned, ample, Run, ListStatement}
-use Rattle.limbs.proofs.ValueLaws.{value-length, limbCount-positive, length-shortest, value-shortest}
+use Rattle.limbwords.proofs.ValueLaws.{value-length, limbCount-positive, length-shortest, value-shortest}
 use Rattle.limbs.proofs.OutcomeLaws.{passed, operand-passed, operand-length}
 
 -- ---- legal limbs, and integers that fit 32,768 bits, which are 1,024 limbs

@@ -1,16 +1,5 @@
-pub mod ValueLaws
-pub mod LimbLaws
-pub mod WindowLaws
-pub mod ReverseLaws
-pub mod LengthBounds
-pub mod MeasureLaws
 pub mod BufferLaws
-pub mod LogicalLaws
-pub mod SpliceLaws
-pub mod FieldLimbs
 pub mod SegmentLaws
-pub mod RotationCounts
-pub mod CountLimbs
 pub mod OutcomeLaws
 pub mod StageLaws
 pub mod ShiftCalls

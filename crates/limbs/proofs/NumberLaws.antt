@@ -16,10 +16,10 @@ use Rattle.bits.proofs.LengthLaws.{fits-length}
 use Rattle.bits.proofs.FitsLaws.{is-true}
 use Rattle.bits.proofs.Digitwise.{digit-testbit}
 use Rattle.limbs.specs.declared.Number.{Number}
-use Rattle.limbs.specs.Value.{bitsFrom}
+use Rattle.limbwords.specs.Value.{bitsFrom}
 use Rattle.limbs.specs.Buffer.{Outcome, refused, integer, number}
 use Rattle.limbs.specs.Operations.{mostLimbs, isOperand, operand}
-use Rattle.limbs.proofs.LimbLaws.{testbit-bitsFrom}
+use Rattle.limbwords.proofs.LimbLaws.{testbit-bitsFrom}
 use Rattle.limbs.proofs.OutcomeLaws.{operand-passed, operand-failed, operand-length}
 
 -- ---- the operand
@@ -47,26 +47,6 @@ module _ (xs : List ℕ) {t : Bool} (e : t ≡ isOperand xs) (n : not t ≡ fals
   -- an integer, which the call has as v
   pub answered : {o : Outcome} {v z : ℤ} {r : Number} → o ≡ integer z → r ≡ number (integer v) → v ≡ z → r ≡ number (operand xs o)
   answered f q e = as-outcome f (q ∙ ap (λ (v : ℤ). number (integer v)) e)
-
--- ---- a position, from the number q that its bits are, read as signed
-
-not-below : (k : ℤ) → leZ (pos 0) k ≡ not (ltZ k (pos 0))
-not-below (pos n) = le-leb 0 n zero-le ∙ sym (ap not (le-ltb n 0 zero-le))
-not-below (negsuc n) = refl
-
-natural : (k : ℤ) → mag k < 2 ^ 63 → ltZ k (pos 0) ≡ false → T (nonNeg k) × (natAbs k < 2 ^ 63)
-natural (pos n) h e = (tt, h)
-natural (negsuc n) h e = absurd (true≢false e)
-
-module _ (k : ℤ) {q : ℤ} (e : q ≡ k) where
-  -- the code's test is that of the domain
-  pub position-tested : leZ (pos 0) k ≡ not (ltZ q (pos 0))
-  position-tested = not-below k ∙ ap (λ (y : ℤ). not (ltZ y (pos 0))) (sym e)
-
-  -- what the cast to an unsigned word asks, and what it gives
-  pub position-natural : mag k < 2 ^ 63 → ltZ q (pos 0) ≡ false → T (nonNeg q) × (natAbs q < 2 ^ 63)
-  position-natural h t =
-      subst (λ (y : ℤ). T (nonNeg y) × (natAbs y < 2 ^ 63)) (sym e) (natural k h (ap (λ (y : ℤ). ltZ y (pos 0)) (sym e) ∙ t))
 
 -- the lowest bit of 32 bits from a position on
 pub bit-from : (z : ℤ) (at r : ℕ) → r ≡ bitsFrom z at → pos (r % 2) ≡ cond (testbit z at) (pos 1) (pos 0)

@@ -16,10 +16,10 @@ use Rattle.bits.proofs.TestbitLaws.{testbit-above}
 use Rattle.bits.proofs.LengthLaws.{bitLength-least-bits, bitLength-not}
 use Rattle.bits.proofs.LogicalLaws.{testbit-bitwise, isNegative-bitwise}
 use Rattle.limbs.specs.declared.Written.{Written}
-use Rattle.limbs.specs.Value.{value}
+use Rattle.limbwords.specs.Value.{value}
 use Rattle.limbs.specs.Buffer.{Outcome, refused, integer, unless, checked, refusal, written, afterwards, Writes}
 use Rattle.limbs.specs.Operations.{mostLimbs, isOperand, operand}
-use Rattle.limbs.proofs.ValueLaws.{value-length}
+use Rattle.limbwords.proofs.ValueLaws.{value-length}
 
 -- ---- stages
 

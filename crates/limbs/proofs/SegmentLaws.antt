@@ -11,10 +11,10 @@ use Rattle.bits.specs.Field.{bitField, setField, copyBitField, permuteField, ro
 use Rattle.bits.proofs.ShiftLaws.{testbit-shiftLeft-ge}
 use Rattle.bits.proofs.FieldLaws.{inField-lt, inField-ge, testbit-bitField, testbit-setField-in, testbit-setField-out}
 use Rattle.bits.proofs.RotateWords.{rotate-low, rotate-high}
-use Rattle.limbs.specs.Value.{bitsFrom, limbAt}
+use Rattle.limbwords.specs.Value.{bitsFrom, limbAt}
 use Rattle.limbs.specs.Buffer.{Moved, Past}
-use Rattle.limbs.proofs.LimbLaws.{bitsFrom-lt, testbit-bitsFrom, word-ext}
-use Rattle.limbs.proofs.WindowLaws.{bitsFrom-shiftLeft-zero}
+use Rattle.limbwords.proofs.LimbLaws.{bitsFrom-lt, testbit-bitsFrom, word-ext}
+use Rattle.limbwords.proofs.WindowLaws.{bitsFrom-shiftLeft-zero}
 
 -- ---- limbs that lie whole in a piece
 

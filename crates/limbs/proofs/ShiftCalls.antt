@@ -17,27 +17,16 @@ use Rattle.bits.specs.Division.{modℕ}
 use Rattle.bits.proofs.TestbitLaws.{by-lt}
 use Rattle.bits.proofs.ShiftLaws.{shiftRight-zero, shiftLeft-zero-l}
 use Rattle.bits.proofs.LengthLaws.{bitLength-le}
-use Rattle.limbs.specs.Value.{value, bitsFrom, limbsOf, limbCount}
+use Rattle.limbwords.specs.Value.{value, bitsFrom, limbsOf, limbCount}
 use Rattle.limbs.specs.Buffer.{refused, integer, unless, Decides}
 use Rattle.limbs.specs.Operations.{mostLimbs, isOperand, operand, sized}
-use Rattle.limbs.proofs.ValueLaws.{pos-injective, value-length, value-limbsOf, limbCount-le}
-use Rattle.limbs.proofs.LengthBounds.{shiftRight-length, shiftRight-beyond, shiftLeft-length, shiftLeft-length-exact}
+use Rattle.limbwords.proofs.ValueLaws.{pos-injective, value-length, value-limbsOf, limbCount-le}
+use Rattle.bits.proofs.LengthBounds.{shiftRight-length, shiftRight-beyond, shiftLeft-length, shiftLeft-length-exact}
 use Rattle.limbs.proofs.OutcomeLaws.{passed, failed, stage-passed}
 use Rattle.limbs.proofs.NumberLaws.{operand-lengths}
 use Rattle.limbs.proofs.StageLaws.{none-refused, operand-legal}
 
 -- ---- a distance
-
--- a negative one and its complement
-pub complement-mag : (d : ℤ) → leZ (pos 0) d ≡ false → (bitwiseNot d ≡ pos (mag d)) × (d ≡ negsuc (mag d))
-unfolding bitwiseNot
-complement-mag (pos n) h = absurd (true≢false (sym (le-leb 0 n zero-le) ∙ h))
-complement-mag (negsuc n) h = (refl, refl)
-
--- one that is not negative, as the code has it
-pub natural-pos : (d : ℤ) {r : ℕ} → leZ (pos 0) d ≡ true → r ≡ natAbs d → d ≡ pos r
-natural-pos (pos n) h e = ap pos (sym e)
-natural-pos (negsuc n) h e = absurd (true≢false (sym h))
 
 -- one that may not be negative, where nothing is refused
 pub count-legal : (xs : List ℕ) (d : ℤ) {k : ℕ} → Decides (λ o. operand xs (unless (leZ (pos 0) d) 5 o)) k → k ≡ 0

@@ -23,7 +23,7 @@ use Rattle.bits.specs.Testbit.{testbit}
 use lib.ListN.{length, getD, take, drop}
 use Rattle.limbs.specs.declared.Written.{Written}
 use Rattle.limbs.specs.declared.Number.{Number}
-use Rattle.limbs.specs.Value.{shortest}
+use Rattle.limbwords.specs.Value.{shortest}
 
 pub data Outcome : Type 0 where
   refused : ℕ → Outcome

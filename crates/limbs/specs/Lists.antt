@@ -24,7 +24,7 @@ use Rattle.bits.specs.Testbit.{isNegative, testbit}
 use Rattle.bits.specs.Field.{inField}
 use Rattle.bits.specs.FieldList.{FieldCall, rotate, reverse, netCount, oddReversals}
 use Rattle.limbs.specs.declared.Written.{Written}
-use Rattle.limbs.specs.Value.{value, shortest}
+use Rattle.limbwords.specs.Value.{value, shortest}
 use Rattle.limbs.specs.Buffer.{Outcome, refused, integer, room, written, afterwards}
 use Rattle.limbs.specs.Operations.{mostLimbs, isOperand, notOutcome, bitwiseOutcome, rotateOutcome, reverseOutcome, bitCountOutcome}
 

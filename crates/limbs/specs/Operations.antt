@@ -16,7 +16,7 @@ use Rattle.bits.specs.Logical.{bitwiseNot, bitwise, bitwiseIf}
 use Rattle.bits.specs.Count.{bitCount, firstBitSet}
 use Rattle.bits.specs.Shift.{arithmeticShift, shiftLeft, shiftRight}
 use Rattle.bits.specs.Field.{copyBit, bitField, copyBitField, rotateBitField, reverseBitField}
-use Rattle.limbs.specs.Value.{value, limbCount}
+use Rattle.limbwords.specs.Value.{value, limbCount}
 use Rattle.limbs.specs.Buffer.{Outcome, integer, unless}
 use Rattle.bits.specs.Range.{within}
 

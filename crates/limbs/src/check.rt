@@ -90,19 +90,3 @@ pub fn check_count(x: &[u32], n: i64) -> u64
     }
     if 0 <= n { 0 } else { 5 }
 }
-
-// A number that is not negative, as a position.
-pub fn natural(n: i64) -> u64
-    requires { ⌜ leZ (pos 0) n ≡ true ⌝ }
-    ensures { λ r. ⌜ r ≡ natAbs n ⌝ }
-{
-    n as u64
-}
-
-// For a negative number, -(n + 1). There is one for -2^63 too.
-pub fn complement(n: i64) -> u64
-    requires { ⌜ leZ (pos 0) n ≡ false ⌝ }
-    ensures { λ r. ⌜ n ≡ negsuc r ⌝ }
-{
-    (!n) as u64
-}

@@ -7,19 +7,19 @@ ghost use lib.IntN.{pos};
 ghost use lib.ListN.{length};
 ghost use Rattle.bits.specs.Shift.{shiftLeft, shiftRight};
 ghost use Rattle.bits.specs.Field.{bitField, copyBitField, rotateBitField, reverseBitField};
-ghost use Rattle.limbs.specs.Value.{value};
+ghost use Rattle.limbwords.specs.Value.{value};
 ghost use Rattle.limbs.specs.Buffer.{Writes, integer};
 ghost use Rattle.limbs.specs.Operations.{isOperand, sized, bitwiseOutcome};
-ghost use Rattle.limbs.specs.Results.{logicOf};
+ghost use Rattle.limbwords.specs.Results.{logicOf};
 use super::Written;
+use super::answer::refuse;
 use super::check::check_operands;
 use super::index::most;
-use super::measure::measure;
-use super::result::Logic;
-use super::result::Operation;
 use super::run::place;
-use super::run::refuse;
 use super::run::run;
+use limbwords::measure::measure;
+use limbwords::result::Logic;
+use limbwords::result::Operation;
 
 const MOST_LIMBS: usize = 1024;
 

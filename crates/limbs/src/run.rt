@@ -3,22 +3,14 @@ ghost use mathlib.Core.Path.{_≡_};
 ghost use Prim.Native.Nat.{_*_, _<_, _^_};
 ghost use lib.ListN.{length};
 ghost use Rattle.bits.specs.Testbit.{bitLength};
-ghost use Rattle.limbs.specs.Value.{value, limbCount};
+ghost use Rattle.limbwords.specs.Value.{value, limbCount};
 ghost use Rattle.limbs.specs.Buffer.{Writes, integer, refusal};
-ghost use Rattle.limbs.specs.Results.{meaning, Proper};
+ghost use Rattle.limbwords.specs.Results.{meaning, Proper};
 use super::Written;
-use super::measure::measure;
-use super::result::Operation;
+use super::answer::refuse;
 use super::write::write;
-
-pub fn refuse(k: u64) -> Written
-    ensures { λ r. ⌜ r ≡ refusal k ⌝ }
-{
-    Written {
-        refusal: k,
-        length: 0,
-    }
-}
+use limbwords::measure::measure;
+use limbwords::result::Operation;
 
 // A measured result: tested for room, and written.
 pub fn place(

@@ -2,12 +2,12 @@
 ghost use mathlib.Core.Path.{_≡_};
 ghost use Prim.Native.Nat.{_+_, _*_, _-_, _<_, _≤_, _^_};
 ghost use lib.ListN.{length};
-ghost use Rattle.limbs.specs.Value.{value, bitsFrom};
+ghost use Rattle.limbwords.specs.Value.{value, bitsFrom};
 ghost use Rattle.limbs.specs.Buffer.{Puts};
 use super::index::gap;
 use super::index::least;
-use super::limb::join;
-use super::limb::window;
+use limbwords::limb::join;
+use limbwords::limb::window;
 
 pub fn put_zeros(from: usize, to: usize, part: &mut [u32])
     requires { ⌜ (from ≤ to) × (to ≤ length (now part)) ⌝ }

@@ -6,19 +6,19 @@ ghost use lib.IntN.{pos};
 ghost use lib.ListN.{length};
 ghost use Rattle.bits.specs.Shift.{shiftLeft, shiftRight};
 ghost use Rattle.bits.specs.Field.{bitField, copyBitField, rotateBitField, reverseBitField};
-ghost use Rattle.limbs.specs.Value.{value, limbAt};
+ghost use Rattle.limbwords.specs.Value.{value, limbAt};
 ghost use Rattle.limbs.specs.Buffer.{Puts, Moved};
-ghost use Rattle.limbs.specs.Results.{meaning, Proper};
-use super::field::reverse_limb;
+ghost use Rattle.limbwords.specs.Results.{meaning, Proper};
 use super::index::first_past;
 use super::index::gap;
 use super::logical::write_if;
 use super::logical::write_logical;
 use super::logical::write_not;
-use super::measure::limb_of;
-use super::result::Operation;
 use super::segment::put_windows;
 use super::segment::put_zeros;
+use limbwords::field::reverse_limb;
+use limbwords::measure::limb_of;
+use limbwords::result::Operation;
 
 // Any operation, limb by limb.
 fn put_limbs(

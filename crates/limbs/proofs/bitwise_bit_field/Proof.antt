@@ -6,7 +6,7 @@ use mathlib.Core.Bool.{true}
 use lib.IntN.{natAbs}
 use Rattle.bits.proofs.WordLaws.{back}
 use Rattle.bits.specs.Field.{bitField}
-use Rattle.limbs.specs.Value.{value}
+use Rattle.limbwords.specs.Value.{value}
 use Rattle.limbs.specs.Buffer.{Decides, integer}
 use Rattle.limbs.specs.Operations.{isOperand, operand, field, bitFieldOutcome}
 use Rattle.limbs.proofs.StageLaws.{refused-call, done-call, LegalField, one-field, legal-field}

@@ -11,10 +11,11 @@ use mir.Val.{toZ, ofZ}
 use mir.ValLaws.{toZ-ofZ, toZ-pos}
 use borrow.Author.Needs.{needs}
 use Rattle.bits.specs.Testbit.{testbit}
-use Rattle.limbs.specs.Value.{value}
+use Rattle.limbwords.specs.Value.{value}
 use Rattle.limbs.specs.Operations.{bitSetOutcome}
 use Rattle.limbs.proofs.OutcomeLaws.{passed, failed}
-use Rattle.limbs.proofs.NumberLaws.{refused-operand, operand-lengths, refused-number, answered, position-tested, position-natural, bit-from}
+use Rattle.bits.proofs.WordLaws.{position-tested, position-natural}
+use Rattle.limbs.proofs.NumberLaws.{refused-operand, operand-lengths, refused-number, answered, bit-from}
 use Rattle.limbs.proofs.bitwise_bit_set.Statement.{statement}
 use Rattle.limbs.proofs.bitwise_bit_set.Tie as tie
 

@@ -6,13 +6,13 @@ use mathlib.Core.Path.{_≡_, refl, sym, ap, ap₂, _∙_}
 use mathlib.Core.Bool.{true}
 use lib.IntN.{ℤ, pos, natAbs}
 use lib.Signed.{leZ}
-use Rattle.bits.proofs.WordLaws.{back, natural-natAbs}
+use Rattle.bits.proofs.WordLaws.{back, natural-pos}
 use Rattle.bits.specs.Field.{copyBit, copyBitField}
 use Rattle.bits.specs.Range.{within}
-use Rattle.limbs.specs.Value.{value}
+use Rattle.limbwords.specs.Value.{value}
 use Rattle.limbs.specs.Buffer.{Decides, unless, integer}
 use Rattle.limbs.specs.Operations.{mostLimbs, isOperand, operand, copyBitOutcome}
-use Rattle.limbs.proofs.ValueLaws.{value-small}
+use Rattle.limbwords.proofs.ValueLaws.{value-small}
 use Rattle.limbs.proofs.StageLaws.{refused-call, done-call, legal-bit, within-natural}
 use borrow.Author.Needs.{needs}
 use Rattle.limbs.proofs.bitwise_copy_bit.Statement.{statement}
@@ -84,7 +84,7 @@ unfolding copyBitOutcome copyBit
 returns-2 c =
     let a = c .before .before .before .before .before .before .before .before .before .before .before .before in
     let l = legal (c .before .before .before .before .before .before .before .before) in
-    let bit = value-small _ (omega (arith, bit-is (c .before .before .before .before .before .before .before), l .1 .1 .1)) ∙ ap pos (bit-is (c .before .before .before .before .before .before .before)) ∙ sym (natural-natAbs _ (l .1 .1 .0)) in
+    let bit = value-small _ (omega (arith, bit-is (c .before .before .before .before .before .before .before), l .1 .1 .1)) ∙ sym (natural-pos _ (l .1 .1 .0) (bit-is (c .before .before .before .before .before .before .before))) in
     let end = ap (λ (n : ℕ). n + 1) (end-is (c .before .before .before .before)) ∙ add-one _ in
     done-call (decided (c .before .before .before .before .before .before .before .before .before)) (c .before .before .before .before .before .before .before .before .if1 .left)
     (sym (ap (λ (y : ℤ). integer (copyBitField (value (a .args .x .now)) (c .before .before .before .before .before .natural2 .result) (c .before .before .before .before .natural3 .result + 1) y)) bit

@@ -1,5 +1,5 @@
 -- `limbs::bitwise_ior` meets its contract. Assumes nothing.
-use Rattle.limbs.specs.Results.{logicOf}
+use Rattle.limbwords.specs.Results.{logicOf}
 use borrow.Author.Needs.{needs}
 use Rattle.limbs.proofs.bitwise_ior.Statement.{statement}
 use Rattle.limbs.proofs.bitwise_ior.Tie as tie

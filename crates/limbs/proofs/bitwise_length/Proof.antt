@@ -6,7 +6,7 @@ use mir.Syntax.{w64}
 use mir.ValLaws.{toZ-pos}
 use borrow.Author.Needs.{needs}
 use Rattle.limbs.specs.Operations.{lengthOutcome}
-use Rattle.limbs.proofs.ValueLaws.{value-length}
+use Rattle.limbwords.proofs.ValueLaws.{value-length}
 use Rattle.limbs.proofs.NumberLaws.{refused-operand, operand-lengths, answered}
 use Rattle.limbs.proofs.bitwise_length.Statement.{statement}
 use Rattle.limbs.proofs.bitwise_length.Tie as tie

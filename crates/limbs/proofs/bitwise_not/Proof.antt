@@ -2,7 +2,7 @@
 use native.Mathlib.Omega.{arith}
 use mathlib.Core.Path.{refl}
 use Rattle.limbs.specs.Operations.{notOutcome}
-use Rattle.limbs.specs.Results.{meaning, Proper}
+use Rattle.limbwords.specs.Results.{meaning, Proper}
 use Rattle.limbs.proofs.OutcomeLaws.{operand-length, operand-most, not-enough}
 use Rattle.limbs.proofs.StageLaws.{refused-call, done-call, one-operand, legal-one}
 use borrow.Author.Needs.{needs}

@@ -5,9 +5,9 @@ use mathlib.Core.Path.{_≡_, sym, ap, ap₂, _∙_}
 use mathlib.Core.Bool.{true}
 use lib.IntN.{ℤ, pos, natAbs}
 use lib.Signed.{leZ}
-use Rattle.bits.proofs.WordLaws.{back, natural-natAbs}
+use Rattle.bits.proofs.WordLaws.{back, natural-pos}
 use Rattle.bits.specs.Field.{rotateBitField}
-use Rattle.limbs.specs.Value.{value}
+use Rattle.limbwords.specs.Value.{value}
 use Rattle.limbs.specs.Buffer.{Decides, unless, integer}
 use Rattle.limbs.specs.Operations.{isOperand, operand, field, rotateOutcome}
 use Rattle.limbs.proofs.StageLaws.{refused-call, done-call, LegalField, legal-rotation}
@@ -64,7 +64,7 @@ returns-2 : tie.Need-returns-2
 unfolding rotateOutcome
 returns-2 c =
     let a = c .before .before .before .before .before .before .before .before .before .before .before in
-    let count = natural-natAbs _ (legal (c .before .before .before .before .before .before .before) .1) ∙ ap pos (sym (turns (c .before .before .before .before))) in
+    let count = natural-pos _ (legal (c .before .before .before .before .before .before .before) .1) (turns (c .before .before .before .before)) in
     done-call (decided (c .before .before .before .before .before .before .before .before)) (c .before .before .before .before .before .before .before .if1 .left)
     (ap₂ (λ (s e : ℕ). integer (rotateBitField (value (a .args .x .now)) s e (a .args .count))) (sym (from (c .before .before .before .before .before .before))) (sym (to (c .before .before .before .before .before)))
     ∙ ap (λ (k : ℤ). integer (rotateBitField (value (a .args .x .now)) (c .before .before .before .before .before .before .natural .result) (c .before .before .before .before .before .natural2 .result) k)) count)

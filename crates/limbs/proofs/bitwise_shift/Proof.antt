@@ -10,8 +10,8 @@ use Rattle.bits.proofs.WordLaws.{back}
 use Rattle.limbs.specs.Buffer.{integer}
 use Rattle.limbs.specs.Operations.{isOperand, shiftOutcome}
 use Rattle.limbs.proofs.StageLaws.{refused-call, done-call, one-operand, none-refused, operand-legal}
-use Rattle.limbs.proofs.NumberLaws.{position-tested}
-use Rattle.limbs.proofs.ShiftCalls.{natural-pos, shift-left, shift-right}
+use Rattle.bits.proofs.WordLaws.{position-tested, natural-pos}
+use Rattle.limbs.proofs.ShiftCalls.{shift-left, shift-right}
 use borrow.Author.Needs.{needs}
 use Rattle.limbs.proofs.bitwise_shift.Statement.{statement}
 use Rattle.limbs.proofs.bitwise_shift.Tie as tie

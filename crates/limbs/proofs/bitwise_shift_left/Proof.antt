@@ -8,7 +8,7 @@ use mir.Syntax.{w64}
 use mir.Val.{toZ, ofZ}
 use Rattle.bits.specs.Shift.{shiftLeft}
 use Rattle.bits.proofs.WordLaws.{back}
-use Rattle.limbs.specs.Value.{value}
+use Rattle.limbwords.specs.Value.{value}
 use Rattle.limbs.specs.Operations.{isOperand, sized, shiftLeftOutcome}
 use Rattle.limbs.proofs.StageLaws.{refused-call, done-call}
 use Rattle.limbs.proofs.ShiftCalls.{count-legal}

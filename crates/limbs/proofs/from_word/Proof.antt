@@ -2,9 +2,9 @@
 use mathlib.Core.Path.{_≡_, sym, ap}
 use lib.Dec.{lit<}
 use Rattle.bits.proofs.WordLaws.{back}
-use Rattle.limbs.specs.Value.{bitsFrom}
+use Rattle.limbwords.specs.Value.{bitsFrom}
 use Rattle.limbs.specs.Buffer.{integer}
-use Rattle.limbs.specs.Results.{meaning, Proper}
+use Rattle.limbwords.specs.Results.{meaning, Proper}
 use Rattle.limbs.proofs.OutcomeLaws.{writes-as}
 use Rattle.limbs.proofs.ShiftCalls.{word-shifted, word-enough}
 use borrow.Author.Needs.{needs}

@@ -6,10 +6,10 @@ use lib.IntN.{pos}
 use borrow.Author.Needs.{needs}
 use Rattle.bits.specs.Testbit.{testbit}
 use Rattle.bits.specs.Logical.{bitwise}
-use Rattle.limbs.specs.Value.{value, limbAt}
-use Rattle.limbs.specs.Results.{logicOf}
-use Rattle.limbs.proofs.LimbLaws.{limb-value}
-use Rattle.limbs.proofs.LogicalLaws.{bitsFrom-bitwise}
+use Rattle.limbwords.specs.Value.{value, limbAt}
+use Rattle.limbwords.specs.Results.{logicOf}
+use Rattle.limbwords.proofs.LimbLaws.{limb-value}
+use Rattle.limbwords.proofs.LogicalLaws.{bitsFrom-bitwise}
 use Rattle.limbs.proofs.BufferLaws.{Turn, turn-none, turn-more, turn-all}
 use Rattle.limbs.proofs.logical.write_common.Statement.{statement}
 use Rattle.limbs.proofs.logical.write_common.Tie as tie

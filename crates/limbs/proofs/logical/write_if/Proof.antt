@@ -2,7 +2,7 @@
 use Prim.Native.Nat.{_-_}
 use native.Mathlib.Omega.{arith}
 use Rattle.bits.specs.Logical.{bitwiseIf}
-use Rattle.limbs.specs.Value.{value, limbAt}
+use Rattle.limbwords.specs.Value.{value, limbAt}
 use Rattle.limbs.proofs.BufferLaws.{Turn, turn-none, turn-more, turn-all}
 use Rattle.limbs.proofs.logical.write_if.Statement.{statement}
 use Rattle.limbs.proofs.logical.write_if.Tie as tie

@@ -2,8 +2,8 @@
 use Prim.Native.Nat.{_-_}
 use native.Mathlib.Omega.{arith}
 use Rattle.bits.specs.Logical.{bitwise}
-use Rattle.limbs.specs.Value.{value, limbAt}
-use Rattle.limbs.specs.Results.{logicOf}
+use Rattle.limbwords.specs.Value.{value, limbAt}
+use Rattle.limbwords.specs.Results.{logicOf}
 use Rattle.limbs.proofs.BufferLaws.{Turn, turn-none, turn-more, turn-all}
 use Rattle.limbs.proofs.logical.write_padded.Statement.{statement}
 use Rattle.limbs.proofs.logical.write_padded.Tie as tie

@@ -2,7 +2,7 @@
 use native.Mathlib.Omega.{arith}
 use mathlib.Core.Path.{refl}
 use Rattle.limbs.specs.Operations.{bitwiseOutcome}
-use Rattle.limbs.specs.Results.{logicOf, meaning, Proper}
+use Rattle.limbwords.specs.Results.{logicOf, meaning, Proper}
 use Rattle.limbs.proofs.OutcomeLaws.{operand-length, operand-most, bitwise-enough}
 use Rattle.limbs.proofs.StageLaws.{refused-call, done-call, two-operands, legal-two}
 use borrow.Author.Needs.{needs}

@@ -1,6 +1,6 @@
 -- `limbs::operand::move_left` meets its contract. Assumes nothing.
 use native.Mathlib.Omega.{arith}
-use Rattle.limbs.specs.Results.{meaning, Proper}
+use Rattle.limbwords.specs.Results.{meaning, Proper}
 use Rattle.limbs.proofs.OutcomeLaws.{writes-refused, writes-as}
 use Rattle.limbs.proofs.ShiftCalls.{legal-lengths, left-enough, capped-le, left-done, left-refused}
 use borrow.Author.Needs.{needs}

@@ -2,7 +2,7 @@
 use native.Mathlib.Omega.{arith}
 use mathlib.Core.Path.{ap}
 use Rattle.limbs.specs.Buffer.{integer}
-use Rattle.limbs.specs.Results.{meaning, Proper}
+use Rattle.limbwords.specs.Results.{meaning, Proper}
 use Rattle.limbs.proofs.OutcomeLaws.{writes-as}
 use Rattle.limbs.proofs.ShiftCalls.{legal-lengths, right-enough, capped-le, capped-right}
 use borrow.Author.Needs.{needs}

@@ -1,10 +1,10 @@
 -- `limbs::operand::reverse_field` meets its contract. Assumes nothing.
 use native.Mathlib.Omega.{arith}
 use Prim.Native.Nat.{_*_, _-_}
-use Rattle.limbs.specs.Value.{value}
-use Rattle.limbs.specs.Results.{meaning, Proper}
-use Rattle.limbs.proofs.ValueLaws.{value-length}
-use Rattle.limbs.proofs.LengthBounds.{reverseBitField-length}
+use Rattle.limbwords.specs.Value.{value}
+use Rattle.limbwords.specs.Results.{meaning, Proper}
+use Rattle.limbwords.proofs.ValueLaws.{value-length}
+use Rattle.bits.proofs.LengthBounds.{reverseBitField-length}
 use Rattle.limbs.proofs.OutcomeLaws.{operand-length, operand-most}
 use borrow.Author.Needs.{needs}
 use Rattle.limbs.proofs.operand.reverse_field.Statement.{statement}

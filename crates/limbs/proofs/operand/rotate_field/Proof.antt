@@ -3,12 +3,12 @@ use native.Mathlib.Omega.{arith}
 use Prim.Native.Nat.{_*_, _-_}
 use mathlib.Core.Path.{sym, ap}
 use lib.IntN.{pos}
-use Rattle.limbs.specs.Value.{value}
+use Rattle.limbwords.specs.Value.{value}
 use Rattle.limbs.specs.Buffer.{integer}
-use Rattle.limbs.specs.Results.{meaning, Proper}
-use Rattle.limbs.proofs.ValueLaws.{value-length}
-use Rattle.limbs.proofs.LengthBounds.{rotateBitField-length}
-use Rattle.limbs.proofs.RotationCounts.{reduced-le, rotate-reduced}
+use Rattle.limbwords.specs.Results.{meaning, Proper}
+use Rattle.limbwords.proofs.ValueLaws.{value-length}
+use Rattle.bits.proofs.LengthBounds.{rotateBitField-length}
+use Rattle.bits.proofs.RotationCounts.{reduced-le, rotate-reduced}
 use Rattle.limbs.proofs.OutcomeLaws.{operand-length, operand-most, writes-as}
 use borrow.Author.Needs.{needs}
 use Rattle.limbs.proofs.operand.rotate_field.Statement.{statement}

@@ -1,8 +1,8 @@
 -- `limbs::operand::take_field` meets its contract. Assumes nothing.
 use native.Mathlib.Omega.{arith}
-use Rattle.limbs.specs.Value.{value}
-use Rattle.limbs.specs.Results.{meaning, Proper}
-use Rattle.limbs.proofs.LengthBounds.{bitField-length}
+use Rattle.limbwords.specs.Value.{value}
+use Rattle.limbwords.specs.Results.{meaning, Proper}
+use Rattle.bits.proofs.LengthBounds.{bitField-length}
 use Rattle.limbs.proofs.OutcomeLaws.{operand-length}
 use borrow.Author.Needs.{needs}
 use Rattle.limbs.proofs.operand.take_field.Statement.{statement}

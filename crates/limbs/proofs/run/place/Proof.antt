@@ -2,9 +2,9 @@
 use native.Mathlib.Omega.{arith}
 use mathlib.Core.Path.{sym, _∙_}
 use lib.IntN.{ℤ}
-use Rattle.limbs.specs.Value.{value}
-use Rattle.limbs.specs.Results.{meaning}
-use Rattle.limbs.proofs.ValueLaws.{limbCount-positive}
+use Rattle.limbwords.specs.Value.{value}
+use Rattle.limbwords.specs.Results.{meaning}
+use Rattle.limbwords.proofs.ValueLaws.{limbCount-positive}
 use Rattle.limbs.proofs.BufferLaws.{part-length, no-room, laid-answer, laid-buffer}
 use borrow.Author.Needs.{needs}
 use Rattle.limbs.proofs.run.place.Statement.{statement}

@@ -1,6 +1,6 @@
 -- `limbs::run::run` meets its contract. Assumes nothing.
 use native.Mathlib.Omega.{arith}
-use Rattle.limbs.proofs.ValueLaws.{limbCount-le}
+use Rattle.limbwords.proofs.ValueLaws.{limbCount-le}
 use borrow.Author.Needs.{needs}
 use Rattle.limbs.proofs.run.run.Statement.{statement}
 use Rattle.limbs.proofs.run.run.Tie as tie

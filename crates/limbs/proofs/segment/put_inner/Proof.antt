@@ -1,9 +1,9 @@
 -- `limbs::segment::put_inner` meets its contract, turn by turn. Assumes nothing.
 use native.Mathlib.Omega.{arith}
 use Prim.Native.Nat.{_+_, _*_, _-_}
-use Rattle.limbs.specs.Value.{value, bitsFrom}
+use Rattle.limbwords.specs.Value.{value, bitsFrom}
 use mathlib.Core.Path.{_≡_, ap, _∙_}
-use Rattle.limbs.proofs.LimbLaws.{window-value}
+use Rattle.limbwords.proofs.LimbLaws.{window-value}
 use Rattle.limbs.proofs.BufferLaws.{Turn, turn-none, turn-more, turn-all}
 use borrow.Author.Needs.{needs}
 use Rattle.limbs.proofs.segment.put_inner.Statement.{statement}

@@ -1,7 +1,7 @@
 -- `limbs::segment::put_outer` meets its contract, turn by turn. Assumes nothing.
 use native.Mathlib.Omega.{arith}
 use Prim.Native.Nat.{_+_, _*_, _-_}
-use Rattle.limbs.specs.Value.{value, bitsFrom}
+use Rattle.limbwords.specs.Value.{value, bitsFrom}
 use Rattle.limbs.proofs.BufferLaws.{Turn, turn-none, turn-more, turn-all}
 use borrow.Author.Needs.{needs}
 use Rattle.limbs.proofs.segment.put_outer.Statement.{statement}

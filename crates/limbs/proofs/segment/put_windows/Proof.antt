@@ -3,7 +3,7 @@ use Prim.Native.Nat.{ℕ, _+_, _*_, _-_, _/_, _%_, _≤_}
 use native.Mathlib.Omega.{arith}
 use mathlib.Core.Path.{_≡_, ap}
 use lib.IntN.{ℤ}
-use Rattle.limbs.specs.Value.{value, bitsFrom}
+use Rattle.limbwords.specs.Value.{value, bitsFrom}
 use Rattle.limbs.proofs.BufferLaws.{puts-join, puts-as}
 use borrow.Author.Needs.{needs}
 use Rattle.limbs.proofs.segment.put_windows.Statement.{statement}

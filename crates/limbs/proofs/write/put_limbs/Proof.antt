@@ -1,8 +1,8 @@
 -- `limbs::write::put_limbs` meets its contract, turn by turn. Assumes nothing.
 use native.Mathlib.Omega.{arith}
 use Prim.Native.Nat.{_-_}
-use Rattle.limbs.specs.Value.{value, limbAt}
-use Rattle.limbs.specs.Results.{meaning}
+use Rattle.limbwords.specs.Value.{value, limbAt}
+use Rattle.limbwords.specs.Results.{meaning}
 use Rattle.limbs.proofs.BufferLaws.{Turn, turn-none, turn-more, turn-all}
 use Rattle.limbs.proofs.write.put_limbs.Statement.{statement}
 use Rattle.limbs.proofs.write.put_limbs.Tie as tie

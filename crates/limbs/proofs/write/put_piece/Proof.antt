@@ -2,7 +2,7 @@
 use native.Mathlib.Omega.{arith}
 use Prim.Native.Nat.{ℕ, _+_, _*_, _-_}
 use mathlib.Core.Path.{ap, _∙_}
-use Rattle.limbs.specs.Value.{value, bitsFrom}
+use Rattle.limbwords.specs.Value.{value, bitsFrom}
 use Rattle.limbs.proofs.SegmentLaws.{moved-limb}
 use Rattle.limbs.proofs.BufferLaws.{puts-join, puts-as}
 use borrow.Author.Needs.{needs}

@@ -3,10 +3,10 @@ use Prim.Native.Nat.{ℕ}
 use mathlib.Core.Path.{_≡_, sym, subst}
 use mathlib.Core.List.{List}
 use lib.IntN.{ℤ}
-use Rattle.limbs.specs.declared.result.Operation.{Operation}
-use Rattle.limbs.specs.Value.{limbAt}
+use Rattle.limbwords.specs.declared.result.Operation.{Operation}
+use Rattle.limbwords.specs.Value.{limbAt}
 use Rattle.limbs.specs.Buffer.{Puts}
-use Rattle.limbs.specs.Results.{meaning, Proper}
+use Rattle.limbwords.specs.Results.{meaning, Proper}
 use borrow.Author.Needs.{needs}
 use Rattle.limbs.proofs.write.write.Statement.{statement}
 use Rattle.limbs.proofs.write.write.Tie as tie

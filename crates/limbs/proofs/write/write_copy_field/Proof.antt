@@ -1,7 +1,7 @@
 -- `limbs::write::write_copy_field` meets its contract. Assumes nothing.
 use native.Mathlib.Omega.{arith}
 use Rattle.bits.specs.Field.{copyBitField}
-use Rattle.limbs.specs.Results.{meaning, Proper}
+use Rattle.limbwords.specs.Results.{meaning, Proper}
 use Rattle.limbs.proofs.SegmentLaws.{moved-below, moved-above, moved-copy}
 use Rattle.limbs.proofs.BufferLaws.{puts-join}
 use borrow.Author.Needs.{needs}

@@ -1,6 +1,6 @@
 -- `limbs::write::write_field` meets its contract. Assumes nothing.
 use native.Mathlib.Omega.{arith}
-use Rattle.limbs.specs.Results.{meaning, Proper}
+use Rattle.limbwords.specs.Results.{meaning, Proper}
 use Rattle.limbs.proofs.SegmentLaws.{moved-field}
 use Rattle.limbs.proofs.BufferLaws.{puts-join}
 use borrow.Author.Needs.{needs}

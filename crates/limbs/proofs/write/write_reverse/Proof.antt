@@ -2,7 +2,7 @@
 use native.Mathlib.Omega.{arith}
 use Prim.Native.Nat.{_-_}
 use Rattle.bits.specs.Field.{reverseBitField}
-use Rattle.limbs.specs.Value.{value, limbAt}
+use Rattle.limbwords.specs.Value.{value, limbAt}
 use Rattle.limbs.proofs.BufferLaws.{Turn, turn-none, turn-more, turn-all}
 use Rattle.limbs.proofs.write.write_reverse.Statement.{statement}
 use Rattle.limbs.proofs.write.write_reverse.Tie as tie

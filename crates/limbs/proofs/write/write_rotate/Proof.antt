@@ -1,7 +1,7 @@
 -- `limbs::write::write_rotate` meets its contract. Assumes nothing.
 use native.Mathlib.Omega.{arith}
 use Rattle.bits.specs.Field.{permuteField, rotateBitField}
-use Rattle.limbs.specs.Results.{meaning, Proper}
+use Rattle.limbwords.specs.Results.{meaning, Proper}
 use Rattle.limbs.proofs.SegmentLaws.{moved-below, moved-above, moved-upper, moved-others}
 use Rattle.limbs.proofs.BufferLaws.{puts-join}
 use borrow.Author.Needs.{needs}

@@ -1,6 +1,6 @@
 -- `limbs::write::write_shift_left` meets its contract. Assumes nothing.
 use native.Mathlib.Omega.{arith}
-use Rattle.limbs.specs.Results.{meaning, Proper}
+use Rattle.limbwords.specs.Results.{meaning, Proper}
 use Rattle.limbs.proofs.SegmentLaws.{zero-limb, moved-left}
 use Rattle.limbs.proofs.BufferLaws.{puts-join, puts-as}
 use borrow.Author.Needs.{needs}

@@ -2,8 +2,8 @@
 use native.Mathlib.Omega.{arith}
 use Prim.Native.Nat.{ℕ, _+_, _*_, _-_}
 use mathlib.Core.Path.{_≡_, ap, _∙_}
-use Rattle.limbs.specs.Value.{value, bitsFrom}
-use Rattle.limbs.proofs.WindowLaws.{bitsFrom-shiftRight}
+use Rattle.limbwords.specs.Value.{value, bitsFrom}
+use Rattle.limbwords.proofs.WindowLaws.{bitsFrom-shiftRight}
 use Rattle.limbs.proofs.BufferLaws.{puts-as}
 use borrow.Author.Needs.{needs}
 use Rattle.limbs.proofs.write.write_shift_right.Statement.{statement}

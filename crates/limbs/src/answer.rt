@@ -1,0 +1,32 @@
+// What a call answers.
+ghost use mathlib.Core.Path.{_≡_};
+ghost use Rattle.limbs.specs.Buffer.{refused, integer, refusal, number};
+use super::Number;
+use super::Written;
+
+pub fn refuse(k: u64) -> Written
+    ensures { λ r. ⌜ r ≡ refusal k ⌝ }
+{
+    Written {
+        refusal: k,
+        length: 0,
+    }
+}
+
+pub fn refuse_number(k: u64) -> Number
+    ensures { λ r. ⌜ r ≡ number (refused k) ⌝ }
+{
+    Number {
+        refusal: k,
+        value: 0,
+    }
+}
+
+pub fn done(v: i64) -> Number
+    ensures { λ r. ⌜ r ≡ number (integer v) ⌝ }
+{
+    Number {
+        refusal: 0,
+        value: v,
+    }
+}

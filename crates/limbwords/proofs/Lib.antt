@@ -1,0 +1,9 @@
+pub mod ValueLaws
+pub mod LimbLaws
+pub mod WindowLaws
+pub mod SpliceLaws
+pub mod ReverseLaws
+pub mod FieldLimbs
+pub mod LogicalLaws
+pub mod MeasureLaws
+pub mod CountLimbs

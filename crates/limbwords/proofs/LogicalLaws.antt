@@ -1,0 +1,51 @@
+-- The logical operations on limbs. Assumes nothing.
+use Prim.Native.Nat.{ℕ, suc, _+_, _-_, _^_, _<_}
+use native.Mathlib.Omega.{arith}
+use mathlib.Core.Path.{_≡_, sym, ap, ap₂, _∙_}
+use mathlib.Core.Bool.{Bool, _&&_, _||_}
+use lib.Bits.{bitAnd, bitOr, and-lt, or-lt}
+use lib.IntN.{ℤ, pos}
+use lib.Pow.{pow-pos}
+use Rattle.bits.specs.Testbit.{testbit}
+use Rattle.bits.specs.Logical.{bitwiseNot, bitwise, bitwiseAnd, bitwiseIor, bitwiseIf}
+use Rattle.bits.specs.Shift.{shiftRight}
+use Rattle.bits.specs.Division.{modℕ}
+use Rattle.bits.proofs.ModLaws.{modℕ-not}
+use Rattle.bits.proofs.ShiftLaws.{shiftRight-not}
+use Rattle.bits.proofs.LogicalLaws.{testbit-bitwise}
+use Rattle.bits.proofs.Digitwise.{testbit-digitwise, and-digitwise, ior-digitwise}
+use Rattle.limbwords.specs.Value.{bitsFrom}
+use Rattle.limbwords.proofs.LimbLaws.{bitsFrom-lt, testbit-bitsFrom, word-ext}
+
+pub bitsFrom-not : (z : ℤ) (at : ℕ) → 4294967295 - bitsFrom z at ≡ bitsFrom (bitwiseNot z) at
+unfolding bitsFrom
+bitsFrom-not z at =
+    let e : 4294967295 - modℕ (shiftRight z at) (2 ^ 32) ≡ 2 ^ 32 - suc (modℕ (shiftRight z at) (2 ^ 32)) = omega arith in
+    e ∙ sym (modℕ-not (shiftRight z at) (2 ^ 32) (pow-pos 32)) ∙ ap (λ (y : ℤ). modℕ y (2 ^ 32)) (sym (shiftRight-not z at))
+
+-- an operation on the digits of two limbs
+pub bitsFrom-bitwise : (op : Bool → Bool → Bool) (x y : ℤ) (at r : ℕ) → r < 2 ^ 32
+    → ((t : ℕ) → testbit (pos r) t ≡ op (testbit (pos (bitsFrom x at)) t) (testbit (pos (bitsFrom y at)) t)) → r ≡ bitsFrom (bitwise op x y) at
+bitsFrom-bitwise op x y at r h e =
+    word-ext r (bitwise op x y) at h (λ t k.
+    e t ∙ ap₂ op (testbit-bitsFrom x at t k) (testbit-bitsFrom y at t k) ∙ sym (testbit-bitwise op x y (at + t)))
+
+-- and of two limbs, as a limb of the and
+pub bitsFrom-and : (x y : ℤ) (at : ℕ) → bitAnd (bitsFrom x at) (bitsFrom y at) ≡ bitsFrom (bitwiseAnd x y) at
+unfolding bitwiseAnd
+bitsFrom-and x y at =
+    bitsFrom-bitwise _&&_ x y at _ (and-lt 32 (bitsFrom x at) (bitsFrom y at) (bitsFrom-lt x at) (bitsFrom-lt y at))
+    (λ t. testbit-digitwise and-digitwise t (bitsFrom x at) (bitsFrom y at))
+
+pub bitsFrom-ior : (x y : ℤ) (at : ℕ) → bitOr (bitsFrom x at) (bitsFrom y at) ≡ bitsFrom (bitwiseIor x y) at
+unfolding bitwiseIor
+bitsFrom-ior x y at =
+    bitsFrom-bitwise _||_ x y at _ (or-lt 32 (bitsFrom x at) (bitsFrom y at) (bitsFrom-lt x at) (bitsFrom-lt y at))
+    (λ t. testbit-digitwise ior-digitwise t (bitsFrom x at) (bitsFrom y at))
+
+pub bitsFrom-if : (x y z : ℤ) (at : ℕ)
+    → bitOr (bitAnd (bitsFrom x at) (bitsFrom y at)) (bitAnd (4294967295 - bitsFrom x at) (bitsFrom z at)) ≡ bitsFrom (bitwiseIf x y z) at
+unfolding bitwiseIf
+bitsFrom-if x y z at =
+    ap₂ bitOr (bitsFrom-and x y at) (ap (λ (n : ℕ). bitAnd n (bitsFrom z at)) (bitsFrom-not x at) ∙ bitsFrom-and (bitwiseNot x) z at)
+    ∙ bitsFrom-ior (bitwiseAnd x y) (bitwiseAnd (bitwiseNot x) z) at

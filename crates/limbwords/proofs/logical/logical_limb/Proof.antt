@@ -1,0 +1,30 @@
+-- `limbwords::logical::logical_limb` meets its contract. Assumes nothing.
+use Prim.Native.Nat.{ℕ, _*_}
+use mathlib.Core.Path.{ap, ap₂, _∙_}
+use lib.IntN.{pos}
+use Rattle.bits.specs.Testbit.{testbit}
+use Rattle.limbwords.specs.Value.{value}
+use Rattle.limbwords.specs.Results.{logicOf}
+use Rattle.limbwords.proofs.LogicalLaws.{bitsFrom-bitwise}
+use borrow.Author.Needs.{needs}
+use Rattle.limbwords.proofs.logical.logical_limb.Statement.{statement}
+use Rattle.limbwords.proofs.logical.logical_limb.Tie as tie
+
+limb-requires : tie.Need-limb-requires
+limb-requires c κs = search needs
+
+limb-requires-2 : tie.Need-limb-requires-2
+limb-requires-2 c κs = search needs
+
+combine-requires : tie.Need-combine-requires
+combine-requires c κs = search needs
+
+returns : tie.Need-returns
+returns c =
+    let a = c .before .before .before .before .before in
+    bitsFrom-bitwise (logicOf (a .args .by)) (value (a .args .x .now)) (value (a .args .y .now)) (32 * a .args .j) (c .combine .result) (c .combine .ok) (λ t.
+    c .combine .ensures t
+    ∙ ap₂ (λ (m n : ℕ). logicOf (a .args .by) (testbit (pos m) t) (testbit (pos n) t)) (c .before .before .limb .ensures) (c .before .limb2 .ensures))
+
+pub logical-limb-spec : {M : Type 1} → statement M
+logical-limb-spec = tie.close (tie.spec limb-requires limb-requires-2 combine-requires returns)

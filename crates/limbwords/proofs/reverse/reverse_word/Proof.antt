@@ -1,0 +1,37 @@
+-- `limbwords::reverse::reverse_word` meets its contract. Assumes nothing.
+use Rattle.limbwords.proofs.ReverseLaws.{testbit-reversed}
+use borrow.Author.Needs.{needs}
+use Rattle.limbwords.proofs.reverse.reverse_word.Statement.{statement}
+use Rattle.limbwords.proofs.reverse.reverse_word.Tie as tie
+
+swap-requires : tie.Need-swap-requires
+swap-requires c κs = search needs
+
+swap-requires-2 : tie.Need-swap-requires-2
+swap-requires-2 c κs = search needs
+
+swap-requires-3 : tie.Need-swap-requires-3
+swap-requires-3 c κs = search needs
+
+swap-requires-4 : tie.Need-swap-requires-4
+swap-requires-4 c κs = search needs
+
+swap-requires-5 : tie.Need-swap-requires-5
+swap-requires-5 c κs = search needs
+
+returns : tie.Need-returns
+returns c =
+    let b = c .before in
+    let a = b .before .before .before in
+    testbit-reversed _ _ _ _ _ _ (a .swap .ensures) (b .before .before .swap2 .ensures) (b .before .swap3 .ensures) (b .swap4 .ensures) (c .swap5 .ensures)
+
+pub reverse-word-spec : {M : Type 1} → statement M
+reverse-word-spec =
+    tie.close
+    (tie.spec
+    swap-requires
+    swap-requires-2
+    swap-requires-3
+    swap-requires-4
+    swap-requires-5
+    returns)

@@ -1,0 +1,17 @@
+-- `limbwords::splice::power` meets its contract: a power of two below 2^64 does not wrap. Assumes nothing.
+use Prim.Native.Nat.{ℕ, _%_, _^_}
+use native.Mathlib.Nat.{one-mul, mod-eq-of-lt}
+use mathlib.Core.Path.{ap, _∙_}
+use lib.Pow.{pow-lt}
+use borrow.Author.Needs.{needs}
+use Rattle.limbwords.proofs.splice.power.Statement.{statement}
+use Rattle.limbwords.proofs.splice.power.Tie as tie
+
+shl-result : tie.Need-shl-result
+shl-result c = search needs
+
+returns : tie.Need-returns
+returns c = ap (λ (n : ℕ). n % 2 ^ 64) (one-mul (2 ^ c .args .k)) ∙ mod-eq-of-lt (pow-lt (c .pre))
+
+pub power-spec : {M : Type 1} → statement M
+power-spec = tie.close (tie.spec shl-result returns)

@@ -1,0 +1,47 @@
+-- What the code's description of a result means, on the values of up to three operands.
+--   logicOf l            ==  the Boolean operation
+--   meaning r x y z      ==  the integer that r describes
+--   Proper r             ==  the numbers of r are what the limb functions can work with
+--   continued n          ==  the limb that continues the top bit of the limb n
+use Prim.Native.Nat.{ℕ, _-_, _^_, _≤_, _<_}
+use mathlib.Core.Bool.{Bool, cond, not, _&&_, _||_, xor}
+use lib.Dec.{ltb}
+use lib.IntN.{ℤ, pos}
+use Rattle.bits.specs.Logical.{bitwiseNot, bitwise, bitwiseIf}
+use Rattle.bits.specs.Shift.{shiftLeft, shiftRight}
+use Rattle.bits.specs.Field.{bitField, copyBitField, rotateBitField, reverseBitField}
+use Rattle.limbwords.specs.declared.result.Logic.{Logic}
+use Rattle.limbwords.specs.declared.result.Logic.the-variants.{And, Ior, Xor}
+use Rattle.limbwords.specs.declared.result.Operation.{Operation}
+use Rattle.limbwords.specs.declared.result.Operation.the-variants.{Not, Logical, If, ShiftLeft, ShiftRight, Field, CopyField, Rotate, Reverse}
+
+unfoldable pub logicOf : Logic → Bool → Bool → Bool
+logicOf And = _&&_
+logicOf Ior = _||_
+logicOf Xor = xor
+
+unfoldable pub meaning : Operation → ℤ → ℤ → ℤ → ℤ
+meaning Not x y z = bitwiseNot x
+meaning (Logical l) x y z = bitwise (logicOf l) x y
+meaning If x y z = bitwiseIf x y z
+meaning (ShiftLeft by) x y z = shiftLeft x by
+meaning (ShiftRight by) x y z = shiftRight x by
+meaning (Field start end) x y z = bitField x start end
+meaning (CopyField start end) x y z = copyBitField x start end y
+meaning (Rotate start end by) x y z = rotateBitField x start end (pos by)
+meaning (Reverse start end) x y z = reverseBitField x start end
+
+-- a rotation is by at most the size of the field
+unfoldable pub Proper : Operation → Type 0
+Proper Not = Unit {0}
+Proper (Logical l) = Unit {0}
+Proper If = Unit {0}
+Proper (ShiftLeft by) = by < 2 ^ 32
+Proper (ShiftRight by) = by < 2 ^ 32
+Proper (Field start end) = (start ≤ end) × (end < 2 ^ 32)
+Proper (CopyField start end) = (start ≤ end) × (end < 2 ^ 32)
+Proper (Rotate start end by) = ((start ≤ end) × (end < 2 ^ 32)) × (by ≤ end - start)
+Proper (Reverse start end) = (start ≤ end) × (end < 2 ^ 32)
+
+unfoldable pub continued : ℕ → ℕ
+continued n = cond (not (ltb n 0x80000000)) 0xFFFFFFFF 0

@@ -1,0 +1,46 @@
+// The logical operations, limb by limb.
+ghost use mathlib.Core.Path.{_≡_};
+ghost use Prim.Native.Nat.{ℕ, _<_};
+ghost use lib.IntN.{pos};
+ghost use lib.ListN.{length};
+ghost use Rattle.bits.specs.Testbit.{testbit};
+ghost use Rattle.bits.specs.Logical.{bitwiseNot, bitwise, bitwiseIf};
+ghost use Rattle.limbwords.specs.Value.{value, limbAt};
+ghost use Rattle.limbwords.specs.Results.{logicOf};
+use super::limb::limb;
+use super::result::Logic;
+
+pub fn not_limb(x: &[u32], j: usize) -> u32
+    requires { ⌜ 0 < length (now x) ⌝ }
+    ensures { λ r. ⌜ r ≡ limbAt (bitwiseNot (value (now (x .entry)))) j ⌝ }
+{
+    !limb(x, j)
+}
+
+pub fn combine(by: Logic, a: u32, b: u32) -> u32
+    ensures { λ r. ⌜ ((t : ℕ) → testbit (pos r) t ≡ logicOf by (testbit (pos a) t) (testbit (pos b) t)) ⌝ }
+{
+    match by {
+        Logic::And => a & b,
+        Logic::Ior => a | b,
+        Logic::Xor => a ^ b,
+    }
+}
+
+pub fn logical_limb(by: Logic, x: &[u32], y: &[u32], j: usize) -> u32
+    requires { ⌜ 0 < length (now x) ⌝ }
+    requires { ⌜ 0 < length (now y) ⌝ }
+    ensures { λ r. ⌜ r ≡ limbAt (bitwise (logicOf by) (value (now (x .entry))) (value (now (y .entry)))) j ⌝ }
+{
+    combine(by, limb(x, j), limb(y, j))
+}
+
+pub fn if_limb(x: &[u32], y: &[u32], z: &[u32], j: usize) -> u32
+    requires { ⌜ 0 < length (now x) ⌝ }
+    requires { ⌜ 0 < length (now y) ⌝ }
+    requires { ⌜ 0 < length (now z) ⌝ }
+    ensures { λ r. ⌜ r ≡ limbAt (bitwiseIf (value (now (x .entry))) (value (now (y .entry))) (value (now (z .entry)))) j ⌝ }
+{
+    let m = limb(x, j);
+    (m & limb(y, j)) | (!m & limb(z, j))
+}

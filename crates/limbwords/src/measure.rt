@@ -1,0 +1,70 @@
+// The limbs of a described result at any index, and how many it needs.
+ghost use mathlib.Core.Path.{_≡_};
+ghost use Prim.Native.Nat.{_*_, _<_, _^_};
+ghost use lib.Dec.{eqb};
+ghost use lib.ListN.{length};
+ghost use Rattle.bits.specs.Testbit.{bitLength};
+ghost use Rattle.limbwords.specs.Value.{value, limbAt, limbCount};
+ghost use Rattle.limbwords.specs.Results.{meaning, Proper, continued};
+use super::field::copy_field_limb;
+use super::field::field_limb;
+use super::field::reverse_limb;
+use super::field::rotate_limb;
+use super::logical::if_limb;
+use super::logical::logical_limb;
+use super::logical::not_limb;
+use super::result::Operation;
+use super::shift::shift_left_limb;
+use super::shift::shift_right_limb;
+
+pub fn limb_of(operation: Operation, x: &[u32], y: &[u32], z: &[u32], j: usize) -> u32
+    requires { ⌜ 0 < length (now x) ⌝ }
+    requires { ⌜ 0 < length (now y) ⌝ }
+    requires { ⌜ 0 < length (now z) ⌝ }
+    requires { ⌜ Proper operation × (j < 2 ^ 32) ⌝ }
+    ensures { λ r. ⌜ r ≡ limbAt (meaning operation (value (now (x .entry))) (value (now (y .entry))) (value (now (z .entry)))) j ⌝ }
+{
+    match operation {
+        Operation::Not => not_limb(x, j),
+        Operation::Logical(by) => logical_limb(by, x, y, j),
+        Operation::If => if_limb(x, y, z, j),
+        Operation::ShiftLeft { by } => shift_left_limb(x, by, j),
+        Operation::ShiftRight { by } => shift_right_limb(x, by, j),
+        Operation::Field { start, end } => field_limb(x, start, end, j),
+        Operation::CopyField { start, end } => copy_field_limb(x, y, start, end, j),
+        Operation::Rotate { start, end, by } => rotate_limb(x, start, end, by, j),
+        Operation::Reverse { start, end } => reverse_limb(x, start, end, j),
+    }
+}
+
+// Whether a limb only continues the top bit of the limb below it.
+fn is_padding(low: u32, high: u32) -> bool
+    ensures { λ r. ⌜ r ≡ eqb high (continued low) ⌝ }
+{
+    if low < 0x8000_0000 {
+        high == 0
+    } else {
+        high == 0xFFFF_FFFF
+    }
+}
+
+// The length of the result's shortest form, from a number of limbs that is enough downwards.
+pub fn measure(operation: Operation, x: &[u32], y: &[u32], z: &[u32], enough: usize) -> usize
+    requires { ⌜ 0 < length (now x) ⌝ }
+    requires { ⌜ 0 < length (now y) ⌝ }
+    requires { ⌜ 0 < length (now z) ⌝ }
+    requires { ⌜ Proper operation × ((0 < enough) × (enough < 2 ^ 32)) ⌝ }
+    requires { ⌜ bitLength (meaning operation (value (now x)) (value (now y)) (value (now z))) < 32 * enough ⌝ }
+    ensures { λ r. ⌜ r ≡ limbCount (meaning operation (value (now (x .entry))) (value (now (y .entry))) (value (now (z .entry)))) ⌝ }
+{
+    let mut n = enough;
+    while 1 < n {
+        let low = limb_of(operation, x, y, z, n - 2);
+        let high = limb_of(operation, x, y, z, n - 1);
+        if !is_padding(low, high) {
+            return n;
+        }
+        n -= 1;
+    }
+    n
+}
