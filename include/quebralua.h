@@ -1,0 +1,150 @@
+/* Quebralua: the R6RS fixnum operations at any width from 24 to 62, the R6RS bitwise operations on integers in 32-bit
+   limbs, and the conversions between the two. Link libquebralua.a, which `rt staticlib quebralua` writes.
+
+   Every call returns, whatever numbers come in. An answer begins with a refusal number:
+
+     0  done
+     1  the width is below 24 or above 62
+     2  the code is not 1 to 41
+     3  the argument count is not allowed for the code
+     4  a counted argument, or the number to convert, is not a fixnum at the width
+     5  a divisor, position, field, distance, count or new bit is outside its domain;
+        or the exact result of fx- is not a fixnum
+     6  the exact result is not a fixnum, or a shift's result would have more than 1,024 limbs
+     7  an operand has no limb, or more than 1,024
+     8  the result is longer than the room in the output buffer
+
+   The first that holds is given, in this order: fixnum calls 1, 2, 3, 4, 5, 6; limb calls 7, 5, 6, 8; limbs to fixnum
+   1, 7, 6; fixnum to limbs 1, 4, 8. A refused call answers 0 for every result and length, and writes no limb of the
+   output buffer.
+
+   What a caller owes:
+   - Each operand pointer is valid for reading its length in limbs, and `out` for writing `nout` limbs. NULL is fine
+     where the length is 0.
+   - The output buffer overlaps no operand. Operands may overlap each other.
+   - No other thread writes these limbs during the call. The library keeps no state and no pointer between calls. */
+
+#ifndef QUEBRALUA_H
+#define QUEBRALUA_H
+
+#include <stddef.h>
+#include <stdint.h>
+
+#ifdef __cplusplus
+extern "C" {
+#endif
+
+typedef struct { uint64_t refusal; int64_t first; int64_t second; } ql_fixnum_answer;
+typedef struct { uint64_t refusal; uint64_t length; } ql_written;
+typedef struct { uint64_t refusal; int64_t value; } ql_value;
+
+/* Fixnums.
+
+   A fixnum at width w is an integer from -2^(w-1) to 2^(w-1) - 1. The arguments are the first `count` of a, b, c, d, in
+   R6RS's order; the others have no influence. An operation with one result puts 0 in `second`; yes is 1 and no is 0.
+
+     1 fx=?   2 fx>?   3 fx<?   4 fx>=?   5 fx<=?                            2 to 4 arguments
+     6 fxzero?   7 fxpositive?   8 fxnegative?   9 fxodd?   10 fxeven?       1
+     11 fxmax   12 fxmin                                                     1 to 4
+     13 fx+   14 fx*                                                         2
+     15 fx-                                                                  1 or 2
+     16 fxdiv   17 fxmod   18 fxdiv-and-mod                                  2
+     19 fxdiv0   20 fxmod0   21 fxdiv0-and-mod0                              2
+     22 fx+/carry   23 fx-/carry   24 likewise of fx*                        3
+     25 fxnot                                                                1
+     26 fxand   27 fxior   28 fxxor                                          0 to 4
+     29 fxif                                                                 3
+     30 fxbit-count   31 fxlength   32 fxfirst-bit-set                       1
+     33 fxbit-set? (number, position)                                        2
+     34 fxcopy-bit (number, position, new bit)                               3
+     35 fxbit-field (number, start, end)                                     3
+     36 fxcopy-bit-field (number, start, end, source)                        4
+     37 fxarithmetic-shift   38 -left   39 -right (number, distance)         2
+     40 fxrotate-bit-field (number, start, end, count)                       4
+     41 fxreverse-bit-field (number, start, end)                             3
+
+   Positions, starts and ends are 0 to w - 1, with start <= end; the distance of 37 is -(w-1) to w - 1, of 38 and 39 it is
+   0 to w - 1; the count of 40 is at least 0 and below end - start; a new bit is 0 or 1. Codes 18, 21 and 22 to 24 have
+   two results: quotient and remainder, and the low word and the carry. */
+ql_fixnum_answer ql_fixnum(uint64_t width, uint64_t code, uint64_t count, int64_t a, int64_t b, int64_t c, int64_t d);
+
+/* Integers in limbs.
+
+   An integer is 1 to 1,024 limbs, least significant first, in two's complement: the top bit of the last limb continues
+   for ever. Operands may have more limbs than they need; a result has as few as it can (0 is one limb 0, -1 is one limb
+   0xFFFFFFFF). It is written to out[first] and the limbs after it, and `length` is the number of its limbs. Every other
+   limb of the output buffer stays as it was. The room is nout - first, or 0 where first is greater than nout. */
+
+/* Each bit of x inverted. */
+ql_written ql_bitwise_not(const uint32_t *x, size_t nx, uint32_t *out, size_t nout, uint64_t first);
+
+/* Bit by bit: and, inclusive or, exclusive or. */
+ql_written ql_bitwise_and(const uint32_t *x, size_t nx, const uint32_t *y, size_t ny,
+                          uint32_t *out, size_t nout, uint64_t first);
+ql_written ql_bitwise_ior(const uint32_t *x, size_t nx, const uint32_t *y, size_t ny,
+                          uint32_t *out, size_t nout, uint64_t first);
+ql_written ql_bitwise_xor(const uint32_t *x, size_t nx, const uint32_t *y, size_t ny,
+                          uint32_t *out, size_t nout, uint64_t first);
+
+/* Bit by bit: the bit of y where x has a 1, the bit of z where x has a 0. */
+ql_written ql_bitwise_if(const uint32_t *x, size_t nx, const uint32_t *y, size_t ny, const uint32_t *z, size_t nz,
+                         uint32_t *out, size_t nout, uint64_t first);
+
+/* x with the bit at `position` (0 to 32,766) replaced by `bit` (0 or 1). */
+ql_written ql_bitwise_copy_bit(const uint32_t *x, size_t nx, int64_t position, int64_t bit,
+                               uint32_t *out, size_t nout, uint64_t first);
+
+/* A field is the bits from `start` (inclusive) to `end` (exclusive), with 0 <= start <= end <= 32,767. */
+
+/* The field of x as a number that is not negative. */
+ql_written ql_bitwise_bit_field(const uint32_t *x, size_t nx, int64_t start, int64_t end,
+                                uint32_t *out, size_t nout, uint64_t first);
+
+/* x with its field replaced by the lowest end - start bits of y. */
+ql_written ql_bitwise_copy_bit_field(const uint32_t *x, size_t nx, int64_t start, int64_t end,
+                                     const uint32_t *y, size_t ny, uint32_t *out, size_t nout, uint64_t first);
+
+/* The floor of x * 2^distance, for any distance. */
+ql_written ql_bitwise_shift(const uint32_t *x, size_t nx, int64_t distance,
+                            uint32_t *out, size_t nout, uint64_t first);
+
+/* x * 2^distance; and the floor of x / 2^distance. The distance is at least 0. */
+ql_written ql_bitwise_shift_left(const uint32_t *x, size_t nx, int64_t distance,
+                                 uint32_t *out, size_t nout, uint64_t first);
+ql_written ql_bitwise_shift_right(const uint32_t *x, size_t nx, int64_t distance,
+                                  uint32_t *out, size_t nout, uint64_t first);
+
+/* x with its field rotated by `count` (at least 0, taken mod end - start) toward the more significant bits. An empty
+   field changes nothing. */
+ql_written ql_bitwise_rotate(const uint32_t *x, size_t nx, int64_t start, int64_t end, int64_t count,
+                             uint32_t *out, size_t nout, uint64_t first);
+
+/* x with the bits of its field in reverse order. */
+ql_written ql_bitwise_reverse(const uint32_t *x, size_t nx, int64_t start, int64_t end,
+                              uint32_t *out, size_t nout, uint64_t first);
+
+/* How many bits of x are 1 if x >= 0; the complement of that of the complement of x if x < 0. */
+ql_value ql_bitwise_bit_count(const uint32_t *x, size_t nx);
+
+/* The fewest bits, beside the sign, that hold x. */
+ql_value ql_bitwise_length(const uint32_t *x, size_t nx);
+
+/* The position of the lowest 1 of x; -1 for 0. */
+ql_value ql_bitwise_first_bit_set(const uint32_t *x, size_t nx);
+
+/* 1 if the bit of x at `position` (at least 0) is 1, else 0. */
+ql_value ql_bitwise_bit_set(const uint32_t *x, size_t nx, int64_t position);
+
+/* Conversion. */
+
+/* x as a fixnum at the width. */
+ql_value ql_limbs_to_fixnum(uint64_t width, const uint32_t *x, size_t nx);
+
+/* The fixnum n at the width, written as limbs. */
+ql_written ql_fixnum_to_limbs(uint64_t width, int64_t n, uint32_t *out, size_t nout, uint64_t first);
+
+#ifdef __cplusplus
+}
+#endif
+
+#endif

@@ -1,0 +1,238 @@
+//! Safe Rust calls over `include/quebralua.h`, to be copied into a program that links libquebralua.a. The header says
+//! what each call means and when it is refused.
+//!
+//! Slices keep what the C library asks of pointers: each is valid for its length, and the borrow checker keeps the
+//! output buffer apart from the operands. An empty slice is passed as NULL with length 0.
+
+/// Why a call is refused. The values are the refusal numbers.
+#[derive(Clone, Copy, Debug, PartialEq, Eq)]
+#[repr(u64)]
+pub enum Refusal {
+    Width = 1,
+    Code = 2,
+    ArgumentCount = 3,
+    NotFixnum = 4,
+    Domain = 5,
+    Size = 6,
+    Operand = 7,
+    Room = 8,
+}
+
+/// The answer of a fixnum call. Refusal 0 is done; an operation with one result has 0 in `second`.
+#[derive(Clone, Copy, Debug, PartialEq, Eq)]
+#[repr(C)]
+pub struct FixnumAnswer {
+    pub refusal: u64,
+    pub first: i64,
+    pub second: i64,
+}
+
+/// The answer of a call that writes limbs: how many it wrote from the first limb on. Refusal 0 is done.
+#[derive(Clone, Copy, Debug, PartialEq, Eq)]
+#[repr(C)]
+pub struct Written {
+    pub refusal: u64,
+    pub length: u64,
+}
+
+/// The answer of a call that writes nothing. Refusal 0 is done.
+#[derive(Clone, Copy, Debug, PartialEq, Eq)]
+#[repr(C)]
+pub struct Value {
+    pub refusal: u64,
+    pub value: i64,
+}
+
+impl Refusal {
+    /// The refusal with this number, which is 1 to 8.
+    fn from_number(number: u64) -> Refusal {
+        use Refusal::*;
+        let all = [Width, Code, ArgumentCount, NotFixnum, Domain, Size, Operand, Room];
+        all[number as usize - 1]
+    }
+}
+
+impl FixnumAnswer {
+    pub fn result(self) -> Result<(i64, i64), Refusal> {
+        match self.refusal {
+            0 => Ok((self.first, self.second)),
+            number => Err(Refusal::from_number(number)),
+        }
+    }
+}
+
+impl Written {
+    pub fn result(self) -> Result<usize, Refusal> {
+        match self.refusal {
+            0 => Ok(self.length as usize),
+            number => Err(Refusal::from_number(number)),
+        }
+    }
+}
+
+impl Value {
+    pub fn result(self) -> Result<i64, Refusal> {
+        match self.refusal {
+            0 => Ok(self.value),
+            number => Err(Refusal::from_number(number)),
+        }
+    }
+}
+
+/// The operation with this code on the first `count` of the places.
+pub fn fixnum(width: u64, code: u64, count: u64, places: [i64; 4]) -> FixnumAnswer {
+    let [a, b, c, d] = places;
+    unsafe { ql_fixnum(width, code, count, a, b, c, d) }
+}
+
+pub fn bitwise_not(x: &[u32], out: &mut [u32], first: u64) -> Written {
+    unsafe { ql_bitwise_not(read(x), x.len(), write(out), out.len(), first) }
+}
+
+pub fn bitwise_and(x: &[u32], y: &[u32], out: &mut [u32], first: u64) -> Written {
+    unsafe { ql_bitwise_and(read(x), x.len(), read(y), y.len(), write(out), out.len(), first) }
+}
+
+pub fn bitwise_ior(x: &[u32], y: &[u32], out: &mut [u32], first: u64) -> Written {
+    unsafe { ql_bitwise_ior(read(x), x.len(), read(y), y.len(), write(out), out.len(), first) }
+}
+
+pub fn bitwise_xor(x: &[u32], y: &[u32], out: &mut [u32], first: u64) -> Written {
+    unsafe { ql_bitwise_xor(read(x), x.len(), read(y), y.len(), write(out), out.len(), first) }
+}
+
+pub fn bitwise_if(x: &[u32], y: &[u32], z: &[u32], out: &mut [u32], first: u64) -> Written {
+    unsafe { ql_bitwise_if(read(x), x.len(), read(y), y.len(), read(z), z.len(), write(out), out.len(), first) }
+}
+
+pub fn bitwise_copy_bit(x: &[u32], position: i64, bit: i64, out: &mut [u32], first: u64) -> Written {
+    unsafe { ql_bitwise_copy_bit(read(x), x.len(), position, bit, write(out), out.len(), first) }
+}
+
+pub fn bitwise_bit_field(x: &[u32], start: i64, end: i64, out: &mut [u32], first: u64) -> Written {
+    unsafe { ql_bitwise_bit_field(read(x), x.len(), start, end, write(out), out.len(), first) }
+}
+
+pub fn bitwise_copy_bit_field(x: &[u32], start: i64, end: i64, y: &[u32], out: &mut [u32], first: u64) -> Written {
+    unsafe { ql_bitwise_copy_bit_field(read(x), x.len(), start, end, read(y), y.len(), write(out), out.len(), first) }
+}
+
+pub fn bitwise_shift(x: &[u32], distance: i64, out: &mut [u32], first: u64) -> Written {
+    unsafe { ql_bitwise_shift(read(x), x.len(), distance, write(out), out.len(), first) }
+}
+
+pub fn bitwise_shift_left(x: &[u32], distance: i64, out: &mut [u32], first: u64) -> Written {
+    unsafe { ql_bitwise_shift_left(read(x), x.len(), distance, write(out), out.len(), first) }
+}
+
+pub fn bitwise_shift_right(x: &[u32], distance: i64, out: &mut [u32], first: u64) -> Written {
+    unsafe { ql_bitwise_shift_right(read(x), x.len(), distance, write(out), out.len(), first) }
+}
+
+pub fn bitwise_rotate(x: &[u32], start: i64, end: i64, count: i64, out: &mut [u32], first: u64) -> Written {
+    unsafe { ql_bitwise_rotate(read(x), x.len(), start, end, count, write(out), out.len(), first) }
+}
+
+pub fn bitwise_reverse(x: &[u32], start: i64, end: i64, out: &mut [u32], first: u64) -> Written {
+    unsafe { ql_bitwise_reverse(read(x), x.len(), start, end, write(out), out.len(), first) }
+}
+
+pub fn bitwise_bit_count(x: &[u32]) -> Value {
+    unsafe { ql_bitwise_bit_count(read(x), x.len()) }
+}
+
+pub fn bitwise_length(x: &[u32]) -> Value {
+    unsafe { ql_bitwise_length(read(x), x.len()) }
+}
+
+pub fn bitwise_first_bit_set(x: &[u32]) -> Value {
+    unsafe { ql_bitwise_first_bit_set(read(x), x.len()) }
+}
+
+pub fn bitwise_bit_set(x: &[u32], position: i64) -> Value {
+    unsafe { ql_bitwise_bit_set(read(x), x.len(), position) }
+}
+
+pub fn limbs_to_fixnum(width: u64, x: &[u32]) -> Value {
+    unsafe { ql_limbs_to_fixnum(width, read(x), x.len()) }
+}
+
+pub fn fixnum_to_limbs(width: u64, n: i64, out: &mut [u32], first: u64) -> Written {
+    unsafe { ql_fixnum_to_limbs(width, n, write(out), out.len(), first) }
+}
+
+fn read(limbs: &[u32]) -> In {
+    if limbs.is_empty() {
+        std::ptr::null()
+    } else {
+        limbs.as_ptr()
+    }
+}
+
+fn write(limbs: &mut [u32]) -> Out {
+    if limbs.is_empty() {
+        std::ptr::null_mut()
+    } else {
+        limbs.as_mut_ptr()
+    }
+}
+
+type In = *const u32;
+type Out = *mut u32;
+
+#[link(name = "quebralua", kind = "static")]
+extern "C" {
+    fn ql_fixnum(width: u64, code: u64, count: u64, a: i64, b: i64, c: i64, d: i64) -> FixnumAnswer;
+    fn ql_bitwise_not(x: In, nx: usize, out: Out, nout: usize, first: u64) -> Written;
+    fn ql_bitwise_and(x: In, nx: usize, y: In, ny: usize, out: Out, nout: usize, first: u64) -> Written;
+    fn ql_bitwise_ior(x: In, nx: usize, y: In, ny: usize, out: Out, nout: usize, first: u64) -> Written;
+    fn ql_bitwise_xor(x: In, nx: usize, y: In, ny: usize, out: Out, nout: usize, first: u64) -> Written;
+    #[rustfmt::skip]
+    fn ql_bitwise_if(
+        x: In,
+        nx: usize,
+        y: In,
+        ny: usize,
+        z: In,
+        nz: usize,
+        out: Out,
+        nout: usize,
+        first: u64,
+    ) -> Written;
+    #[rustfmt::skip]
+    fn ql_bitwise_copy_bit(x: In, nx: usize, position: i64, bit: i64, out: Out, nout: usize, first: u64) -> Written;
+    fn ql_bitwise_bit_field(x: In, nx: usize, start: i64, end: i64, out: Out, nout: usize, first: u64) -> Written;
+    #[rustfmt::skip]
+    fn ql_bitwise_copy_bit_field(
+        x: In,
+        nx: usize,
+        start: i64,
+        end: i64,
+        y: In,
+        ny: usize,
+        out: Out,
+        nout: usize,
+        first: u64,
+    ) -> Written;
+    fn ql_bitwise_shift(x: In, nx: usize, distance: i64, out: Out, nout: usize, first: u64) -> Written;
+    fn ql_bitwise_shift_left(x: In, nx: usize, distance: i64, out: Out, nout: usize, first: u64) -> Written;
+    fn ql_bitwise_shift_right(x: In, nx: usize, distance: i64, out: Out, nout: usize, first: u64) -> Written;
+    #[rustfmt::skip]
+    fn ql_bitwise_rotate(
+        x: In,
+        nx: usize,
+        start: i64,
+        end: i64,
+        count: i64,
+        out: Out,
+        nout: usize,
+        first: u64,
+    ) -> Written;
+    fn ql_bitwise_reverse(x: In, nx: usize, start: i64, end: i64, out: Out, nout: usize, first: u64) -> Written;
+    fn ql_bitwise_bit_count(x: In, nx: usize) -> Value;
+    fn ql_bitwise_length(x: In, nx: usize) -> Value;
+    fn ql_bitwise_first_bit_set(x: In, nx: usize) -> Value;
+    fn ql_bitwise_bit_set(x: In, nx: usize, position: i64) -> Value;
+    fn ql_limbs_to_fixnum(width: u64, x: In, nx: usize) -> Value;
+    fn ql_fixnum_to_limbs(width: u64, n: i64, out: Out, nout: usize, first: u64) -> Written;
+}

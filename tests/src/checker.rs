@@ -1,0 +1,144 @@
+//! Makes calls through the library and compares each answer, and the whole output buffer, with the second
+//! implementation. A difference ends the program.
+
+use crate::binding::{FixnumAnswer, Value, Written};
+use crate::buffer::Buffer;
+use crate::library::{call_fixnum, call_value, call_write};
+use crate::options::Options;
+use crate::outputs::{output, Shape, TOO_SHORT, WITH_ROOM};
+use crate::report::difference;
+use crate::tally::Tally;
+use quebralua_reference::call::{FixnumCall, LimbCall};
+use quebralua_reference::random::Random;
+use quebralua_reference::reference::{fixnum::fixnum, output::write};
+
+/// Limbs on either side of an output buffer, which no call may change.
+const GUARD: usize = 8;
+
+pub struct Checker {
+    pub tally: Tally,
+    pub random: Random,
+    edges_every: u64,
+    guard: usize,
+    trace: bool,
+}
+
+impl Checker {
+    pub fn new(options: &Options) -> Checker {
+        Checker {
+            tally: Tally::new(),
+            random: Random::new(options.seed),
+            edges_every: options.edges_every,
+            guard: if options.no_guards { 0 } else { GUARD },
+            trace: options.trace,
+        }
+    }
+
+    pub fn fixnum(&mut self, call: FixnumCall) -> FixnumAnswer {
+        let (refusal, first, second) = fixnum(call.width, call.code, call.args, call.count);
+        let expected = FixnumAnswer { refusal, first, second };
+        if self.trace {
+            println!("{}", call.as_c());
+        }
+        let got = call_fixnum(&call);
+        if got != expected {
+            difference(&call.as_c(), &format!("{expected:?}"), &format!("{got:?}"));
+        }
+        self.tally.fixnum(call.code, refusal);
+        got
+    }
+
+    pub fn value(&mut self, call: &LimbCall) -> Value {
+        let expected = match call.value() {
+            Ok(value) => Value { refusal: 0, value },
+            Err(refusal) => Value { refusal, value: 0 },
+        };
+        if self.trace {
+            println!("{}", call.as_c(None));
+        }
+        let got = call_value(call);
+        if got != expected {
+            difference(&call.as_c(None), &format!("{expected:?}"), &format!("{got:?}"));
+        }
+        self.tally.limbs(call.operation, expected.refusal);
+        got
+    }
+
+    /// Makes the call on an output buffer of that shape. The result's limbs, if it is done.
+    pub fn write(&mut self, call: &LimbCall, shape: Shape) -> Option<Vec<u32>> {
+        self.write_expecting(call, &call.result(), shape)
+    }
+
+    fn write_expecting(&mut self, call: &LimbCall, result: &Result<Vec<u32>, u64>, shape: Shape) -> Option<Vec<u32>> {
+        let length = result.as_ref().map_or(1, |limbs| limbs.len());
+        let output = output(shape, length, &mut self.random);
+        if self.trace {
+            println!("{}", call.as_c(Some(&output)));
+        }
+        let mut expected_buffer = Buffer::new(&output.limbs, self.guard);
+        let mut buffer = expected_buffer.clone();
+        let expected = match write(result, expected_buffer.inside(), output.first) {
+            Ok(length) => Written { refusal: 0, length },
+            Err(refusal) => Written { refusal, length: 0 },
+        };
+        let got = call_write(call, buffer.inside(), output.first);
+        if got != expected || buffer != expected_buffer {
+            let [expected, got] = [(expected, expected_buffer), (got, buffer)].map(|(w, b)| format!("{w:?} {b}"));
+            difference(&call.as_c(Some(&output)), &expected, &got);
+        }
+        self.tally.limbs(call.operation, expected.refusal);
+        let first = output.first as usize;
+        got.result().ok().map(|length| buffer.inside()[first..first + length].to_vec())
+    }
+
+    /// A fixnum call that is one of the edges.
+    pub fn edge_fixnum(&mut self, call: FixnumCall) {
+        if self.is_chosen() {
+            self.fixnum(call);
+        }
+    }
+
+    /// A limb call that is one of the edges: on one output buffer with room and one too short, of random shapes.
+    pub fn edge(&mut self, call: &LimbCall) {
+        if !self.is_chosen() {
+            return;
+        }
+        if !call.operation.writes() {
+            self.value(call);
+            return;
+        }
+        let result = call.result();
+        for shapes in [&WITH_ROOM[..], &TOO_SHORT] {
+            let shape = self.random.choose(shapes);
+            self.write_expecting(call, &result, shape);
+        }
+    }
+
+    /// A limb call that is one of the edges, on output buffers of every shape.
+    pub fn edge_all_shapes(&mut self, call: &LimbCall) {
+        if !call.operation.writes() {
+            return self.edge(call);
+        }
+        let result = call.result();
+        for shape in WITH_ROOM.into_iter().chain(TOO_SHORT) {
+            if self.is_chosen() {
+                self.write_expecting(call, &result, shape);
+            }
+        }
+    }
+
+    /// Any call that writes limbs or answers a value, on an output buffer of a random shape.
+    pub fn any(&mut self, call: &LimbCall) {
+        if !call.operation.writes() {
+            self.value(call);
+            return;
+        }
+        let shapes: &[Shape] = if self.random.one_in(4) { &TOO_SHORT } else { &WITH_ROOM };
+        let shape = self.random.choose(shapes);
+        self.write(call, shape);
+    }
+
+    fn is_chosen(&mut self) -> bool {
+        self.edges_every == 1 || self.random.one_in(self.edges_every)
+    }
+}

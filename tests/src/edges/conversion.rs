@@ -1,0 +1,67 @@
+//! The conversions at each width: numbers around its limits, shortest and padded, and both ways.
+
+use super::limb_operands::{long, refused, short};
+use crate::checker::Checker;
+use crate::fixnum_arguments::{greatest, least, numbers};
+use crate::outputs::Shape;
+use crate::report::{difference, shown};
+use quebralua_reference::call::LimbCall;
+use quebralua_reference::reference::integer::Integer;
+
+pub fn run(checker: &mut Checker) {
+    let mut operands = short(&mut checker.random);
+    operands.extend(long(&mut checker.random).into_iter().step_by(2));
+    operands.extend(refused());
+    for width in widths() {
+        for x in &operands {
+            checker.edge(&LimbCall::limbs_to_fixnum(width, x));
+        }
+        let numbers = if (24..=62).contains(&width) { numbers(width) } else { numbers(30) };
+        for n in numbers {
+            checker.edge_all_shapes(&LimbCall::fixnum_to_limbs(width, n));
+        }
+    }
+    for width in 24..=62 {
+        limits(checker, width);
+        both_ways(checker, width);
+    }
+}
+
+fn widths() -> Vec<u64> {
+    let mut widths: Vec<u64> = (20..=68).collect();
+    widths.extend([0, 1, 2, (1 << 32) + 24, 1 << 63, u64::MAX]);
+    widths
+}
+
+/// Limbs around the limits of the width, and padded to 2, 3, 4, 1,024 and 1,025 limbs.
+fn limits(checker: &mut Checker, width: u64) {
+    let limit = 1i128 << (width - 1);
+    for n in [limit, -limit, limit << 1, -limit << 1, 1 << 31, -1 << 31, 1 << 63, -1 << 63, 1 << 64, 0] {
+        for near in n - 2..=n + 2 {
+            let mut limbs = Integer::from_i128(near).to_limbs();
+            checker.edge(&LimbCall::limbs_to_fixnum(width, &limbs));
+            for length in [2, 3, 4, 1024, 1025] {
+                if length > limbs.len() {
+                    limbs.resize(length, if near < 0 { u32::MAX } else { 0 });
+                    checker.edge(&LimbCall::limbs_to_fixnum(width, &limbs));
+                }
+            }
+        }
+    }
+}
+
+/// Every fixnum that becomes limbs becomes the same fixnum again, and the limbs the same limbs.
+fn both_ways(checker: &mut Checker, width: u64) {
+    for n in numbers(width).into_iter().filter(|n| (least(width)..=greatest(width)).contains(n)) {
+        let to_limbs = LimbCall::fixnum_to_limbs(width, n);
+        let limbs = checker.write(&to_limbs, Shape::Longer).unwrap_or_default();
+        let back = checker.value(&LimbCall::limbs_to_fixnum(width, &limbs));
+        if back.result() != Ok(n) {
+            difference(&to_limbs.as_c(None), &format!("{n} again"), &format!("{back:?}"));
+        }
+        let again = checker.write(&LimbCall::fixnum_to_limbs(width, back.value), Shape::Exact);
+        if again.as_ref() != Some(&limbs) {
+            difference(&to_limbs.as_c(None), &shown(&limbs), &format!("{again:?}"));
+        }
+    }
+}

@@ -1,0 +1,32 @@
+//! Every field of every width, and every rotation count of it.
+
+use crate::checker::Checker;
+use crate::fixnum_arguments::{least, random_fixnum};
+use quebralua_reference::call::FixnumCall;
+
+pub fn run(checker: &mut Checker) {
+    for width in 24..=62 {
+        for start in 0..width as i64 {
+            for end in start..width as i64 {
+                field(checker, width, start, end);
+            }
+        }
+    }
+}
+
+fn field(checker: &mut Checker, width: u64, start: i64, end: i64) {
+    let any = random_fixnum(&mut checker.random, width);
+    let numbers = [least(width), any, !any];
+    for number in numbers {
+        let mut call = |code, count, last| {
+            let args = [number, start, end, last];
+            checker.edge_fixnum(FixnumCall { width, code, count, args });
+        };
+        call(35, 3, -1);
+        call(36, 4, !any);
+        call(41, 3, -1);
+        for rotation in 0..=end - start {
+            call(40, 4, rotation);
+        }
+    }
+}

@@ -1,0 +1,83 @@
+//! The limb calls without fields: bit by bit, values, one bit, shifts.
+
+use super::limb_operands::{long, one_limb, refused, short, some_long};
+use super::limb_positions::{distances, positions, NEW_BITS};
+use crate::checker::Checker;
+use quebralua_reference::call::LimbCall;
+use quebralua_reference::operation::Operation::*;
+use quebralua_reference::reference::integer::Integer;
+
+pub fn run(checker: &mut Checker) {
+    let mut operands = short(&mut checker.random);
+    operands.extend(long(&mut checker.random));
+    operands.extend(refused());
+    for x in &operands {
+        one_operand(checker, x);
+        one_bit(checker, x);
+        shifts(checker, x);
+    }
+    pairs(checker);
+    triples(checker);
+}
+
+fn one_operand(checker: &mut Checker, x: &[u32]) {
+    for operation in [Not, BitCount, Length, FirstBitSet] {
+        checker.edge_all_shapes(&LimbCall::new(operation, &[x], &[]));
+    }
+}
+
+fn one_bit(checker: &mut Checker, x: &[u32]) {
+    for position in positions(x.len()) {
+        checker.edge(&LimbCall::new(BitSet, &[x], &[position]));
+        for bit in NEW_BITS {
+            checker.edge(&LimbCall::new(CopyBit, &[x], &[position, bit]));
+        }
+    }
+}
+
+fn shifts(checker: &mut Checker, x: &[u32]) {
+    let bits = if x.is_empty() { 0 } else { Integer::from_limbs(x).length() as i64 };
+    for distance in distances(bits) {
+        for operation in [Shift, ShiftLeft, ShiftRight] {
+            checker.edge(&LimbCall::new(operation, &[x], &[distance]));
+        }
+    }
+}
+
+/// Every pair of short operands, and every pair with a long or a refused one, of some.
+fn pairs(checker: &mut Checker) {
+    let short = short(&mut checker.random);
+    for x in &short {
+        for y in &short {
+            for operation in [And, Ior, Xor] {
+                checker.edge_all_shapes(&LimbCall::new(operation, &[x, y], &[]));
+            }
+        }
+    }
+    let mut others = some_long(&mut checker.random, 2);
+    others.extend(refused());
+    let mut all = one_limb();
+    all.extend(others.iter().cloned());
+    for x in &all {
+        for y in &others {
+            for operation in [And, Ior, Xor] {
+                checker.edge(&LimbCall::new(operation, &[x, y], &[]));
+                checker.edge(&LimbCall::new(operation, &[y, x], &[]));
+            }
+        }
+    }
+}
+
+/// Every triple of some operands of every length.
+fn triples(checker: &mut Checker) {
+    let mut operands: Vec<Vec<u32>> = short(&mut checker.random).into_iter().step_by(3).collect();
+    operands.extend(some_long(&mut checker.random, 8));
+    operands.extend(refused().into_iter().take(2));
+    for x in &operands {
+        for y in &operands {
+            for z in &operands {
+                checker.edge(&LimbCall::new(If, &[x, y, z], &[]));
+            }
+        }
+    }
+}

@@ -1,0 +1,28 @@
+//! Calls at every limit that the rules name.
+
+mod conversion;
+mod fixnum;
+mod fixnum_fields;
+mod limb_fields;
+mod limb_operands;
+mod limb_positions;
+mod limbs;
+mod pointers;
+
+use crate::checker::Checker;
+pub use limb_operands::LIMBS;
+
+pub fn fixnum(checker: &mut Checker) {
+    fixnum::run(checker);
+    fixnum_fields::run(checker);
+}
+
+pub fn limbs(checker: &mut Checker) {
+    limbs::run(checker);
+    limb_fields::run(checker);
+    pointers::run(checker);
+}
+
+pub fn conversion(checker: &mut Checker) {
+    conversion::run(checker);
+}

@@ -1,0 +1,43 @@
+//! Makes a described call through the binding.
+
+use crate::binding::*;
+use quebralua_reference::call::{FixnumCall, LimbCall};
+use quebralua_reference::operation::Operation::*;
+
+pub fn call_fixnum(call: &FixnumCall) -> FixnumAnswer {
+    fixnum(call.width, call.code, call.count, call.args)
+}
+
+pub fn call_write(call: &LimbCall, out: &mut [u32], first: u64) -> Written {
+    let [x, y, z] = call.operands;
+    let [a, b, c] = call.numbers;
+    match call.operation {
+        Not => bitwise_not(x, out, first),
+        And => bitwise_and(x, y, out, first),
+        Ior => bitwise_ior(x, y, out, first),
+        Xor => bitwise_xor(x, y, out, first),
+        If => bitwise_if(x, y, z, out, first),
+        CopyBit => bitwise_copy_bit(x, a, b, out, first),
+        BitField => bitwise_bit_field(x, a, b, out, first),
+        CopyBitField => bitwise_copy_bit_field(x, a, b, y, out, first),
+        Shift => bitwise_shift(x, a, out, first),
+        ShiftLeft => bitwise_shift_left(x, a, out, first),
+        ShiftRight => bitwise_shift_right(x, a, out, first),
+        Rotate => bitwise_rotate(x, a, b, c, out, first),
+        Reverse => bitwise_reverse(x, a, b, out, first),
+        FixnumToLimbs => fixnum_to_limbs(call.width, a, out, first),
+        operation => unreachable!("{operation:?} writes no limbs"),
+    }
+}
+
+pub fn call_value(call: &LimbCall) -> Value {
+    let x = call.operands[0];
+    match call.operation {
+        BitCount => bitwise_bit_count(x),
+        Length => bitwise_length(x),
+        FirstBitSet => bitwise_first_bit_set(x),
+        BitSet => bitwise_bit_set(x, call.numbers[0]),
+        LimbsToFixnum => limbs_to_fixnum(call.width, x),
+        operation => unreachable!("{operation:?} writes limbs"),
+    }
+}

@@ -1,0 +1,52 @@
+//! Compares the C library with the second implementation: every edge of the rules, random calls, and lists of calls.
+//! Ends with status 1 at the first difference, and where some operation or refusal was never seen.
+
+mod binding;
+mod buffer;
+mod checker;
+mod edges;
+mod fixnum_arguments;
+mod library;
+mod lists;
+mod options;
+mod outputs;
+mod random_calls;
+mod report;
+mod tally;
+
+use checker::Checker;
+use options::{Options, USAGE};
+use std::process::exit;
+use std::time::Instant;
+
+fn main() {
+    let options = match Options::parse(std::env::args().skip(1)) {
+        Ok(options) => options,
+        Err(message) => {
+            eprintln!("{message}\n{USAGE}");
+            exit(2);
+        }
+    };
+    println!("seed {}", options.seed);
+    let mut checker = Checker::new(&options);
+    phase(&mut checker, "edges of the fixnum calls", edges::fixnum);
+    phase(&mut checker, "edges of the limb calls", edges::limbs);
+    phase(&mut checker, "edges of the conversions", edges::conversion);
+    phase(&mut checker, "random calls", |checker| random_calls::run(checker, options.calls));
+    phase(&mut checker, "lists of rotate and reverse calls", |checker| lists::run(checker, options.lists));
+    println!("\n{}", checker.tally);
+    let missing = checker.tally.missing();
+    if !missing.is_empty() {
+        println!("NOT SEEN\n{}", missing.join("\n"));
+        exit(1);
+    }
+    println!("no difference");
+}
+
+/// Runs one part of the comparison and prints how many calls it made and how long it took.
+fn phase(checker: &mut Checker, name: &str, run: impl FnOnce(&mut Checker)) {
+    let (begin, before) = (Instant::now(), checker.tally.total());
+    run(checker);
+    let (calls, time) = (checker.tally.total() - before, begin.elapsed().as_secs_f64());
+    println!("{name}: {calls} calls, {time:.1} s");
+}

@@ -1,0 +1,59 @@
+//! The command line.
+
+use std::time::{SystemTime, UNIX_EPOCH};
+
+pub const USAGE: &str = "\
+usage: quebralua-tests [--seed N] [--calls N] [--lists N] [--edges-every N] [--no-guards] [--trace]
+  --seed N         the seed of every random choice (default: from the clock); it is printed
+  --calls N        how many random calls (default 2000000)
+  --lists N        how many random lists of fixnum rotations and reversals, and four times fewer of limbs (default 20000)
+  --edges-every N  makes one of N edge calls, chosen at random (default 1: all of them)
+  --no-guards      gives each output buffer an allocation of its own, without guard limbs, for a memory checker
+  --trace          prints each call before it is made, so that the last one shows where a run broke off";
+
+pub struct Options {
+    pub seed: u64,
+    pub calls: u64,
+    pub lists: u64,
+    pub edges_every: u64,
+    pub no_guards: bool,
+    pub trace: bool,
+}
+
+impl Options {
+    fn default() -> Options {
+        let seed = clock();
+        Options { seed, calls: 2_000_000, lists: 20_000, edges_every: 1, no_guards: false, trace: false }
+    }
+
+    pub fn parse(mut args: impl Iterator<Item = String>) -> Result<Options, String> {
+        let mut options = Options::default();
+        while let Some(name) = args.next() {
+            let place = match name.as_str() {
+                "--seed" => &mut options.seed,
+                "--calls" => &mut options.calls,
+                "--lists" => &mut options.lists,
+                "--edges-every" => &mut options.edges_every,
+                "--no-guards" => {
+                    options.no_guards = true;
+                    continue;
+                }
+                "--trace" => {
+                    options.trace = true;
+                    continue;
+                }
+                _ => return Err(format!("unknown option {name}")),
+            };
+            let text = args.next().ok_or(format!("{name} needs a number"))?;
+            *place = text.parse().map_err(|_| format!("{name}: {text} is not a number"))?;
+        }
+        if options.edges_every == 0 {
+            return Err("--edges-every needs a number from 1".to_string());
+        }
+        Ok(options)
+    }
+}
+
+fn clock() -> u64 {
+    SystemTime::now().duration_since(UNIX_EPOCH).map_or(0, |time| time.as_nanos() as u64)
+}

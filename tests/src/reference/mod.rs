@@ -1,0 +1,22 @@
+//! The second implementation: every call, from the papers' definitions and not from the library's code.
+//!
+//! - `fixnum`: the fixnum calls, on i128
+//! - `fixnum_results`: their exact results
+//! - `integer`: an integer of any size as a vector of bits and a sign, and its shortest form in limbs
+//! - `limbs`: the limb calls: operands, domains and size
+//! - `limb_results`: their exact results
+//! - `conversion`: between fixnum and limbs
+//! - `output`: what a result does to the output buffer
+//! - `lists`: the net count of a list of rotate and reverse calls
+
+pub mod conversion;
+pub mod fixnum;
+mod fixnum_results;
+pub mod integer;
+pub mod limb_results;
+pub mod limbs;
+pub mod lists;
+pub mod output;
+
+#[cfg(test)]
+mod tests;
