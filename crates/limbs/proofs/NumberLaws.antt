@@ -1,15 +1,14 @@
 -- The stages of a call that answers a number: an operand that is legal or not, a position, and what fits one word. Assumes nothing.
-use Prim.Native.Nat.{ℕ, zero-le, _%_, _^_, _≤_, _<_}
+use Prim.Native.Nat.{ℕ, _%_, _≤_, _<_}
 use native.Mathlib.Nat.{add-zero}
 use native.Mathlib.Omega.{arith}
 use mathlib.Core.Path.{_≡_, refl, sym, ap, _∙_, subst}
-use mathlib.Core.Bool.{Bool, true, false, cond, not, true≢false}
+use mathlib.Core.Bool.{Bool, true, false, cond, not}
 use mathlib.Core.List.{List}
 use lib.Dec.{T, leb, lit<}
-use lib.IntN.{ℤ, pos, negsuc, natAbs}
+use lib.IntN.{ℤ, pos}
 use lib.ListN.{length}
-use lib.Signed.{mag, ltZ, leZ, nonNeg}
-use borrow.Author.Tests.{not-true, not-false, leb-true, le-leb, le-ltb}
+use borrow.Author.Tests.{not-true, not-false, leb-true}
 use Rattle.bits.specs.Testbit.{testbit, bitLength, fits}
 use Rattle.bits.proofs.Booleans.{both-right}
 use Rattle.bits.proofs.LengthLaws.{fits-length}

@@ -1,17 +1,16 @@
 -- The shifts of an operand: a distance of 32,768 is as good as any beyond it, and what a signed distance comes to. A signed word as two limbs.
 -- Assumes nothing.
-use Prim.Native.Nat.{ℕ, zero, zero-le, suc, _+_, _*_, _/_, _^_, _≤_, _<_}
+use Prim.Native.Nat.{ℕ, zero, suc, _+_, _*_, _/_, _^_, _≤_, _<_}
 use native.Mathlib.Omega.{arith}
 use mathlib.Core.Path.{_≡_, refl, sym, ap, ap₂, _∙_, subst}
-use mathlib.Core.Bool.{true, false, cond, true≢false}
+use mathlib.Core.Bool.{true, cond}
 use mathlib.Core.List.{List, [], _∷_}
 use lib.Dec.{ltb}
-use lib.IntN.{ℤ, pos, negsuc, natAbs, pos-ne-negsuc}
+use lib.IntN.{ℤ, pos, negsuc, pos-ne-negsuc}
 use lib.ListN.{length}
 use lib.Signed.{mag, leZ}
 use borrow.Author.Tests.{le-leb, lt-leb}
 use Rattle.bits.specs.Testbit.{bitLength}
-use Rattle.bits.specs.Logical.{bitwiseNot}
 use Rattle.bits.specs.Shift.{shiftLeft, shiftRight, arithmeticShift}
 use Rattle.bits.specs.Division.{modℕ}
 use Rattle.bits.proofs.TestbitLaws.{by-lt}

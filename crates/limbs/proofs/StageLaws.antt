@@ -2,7 +2,7 @@
 -- Assumes nothing.
 use Prim.Native.Nat.{ℕ, zero-le, _≤_}
 use native.Mathlib.Omega.{arith}
-use mathlib.Core.Path.{_≡_, refl, sym, ap, _∙_}
+use mathlib.Core.Path.{_≡_, sym, ap, _∙_}
 use mathlib.Core.Bool.{Bool, true, false, _&&_}
 use mathlib.Core.List.{List}
 use lib.Dec.{leb}
@@ -11,7 +11,7 @@ use lib.Signed.{leZ}
 use borrow.Author.Tests.{le-leb, leb-true}
 use Rattle.bits.specs.Range.{within}
 use Rattle.limbs.specs.declared.Written.{Written}
-use Rattle.limbs.specs.Buffer.{Outcome, integer, unless, checked, Decides, refusal, Writes}
+use Rattle.limbs.specs.Buffer.{Outcome, integer, unless, Decides, refusal, Writes}
 use Rattle.limbs.specs.Operations.{isOperand, operand, field}
 use Rattle.limbs.proofs.OutcomeLaws.{checked-none, checked-refused, stage-passed, operand-twice, writes-refused, writes-as}
 

@@ -1,7 +1,6 @@
 // What is decided before a result is measured: refusals 7 and 5, by their numbers; 0 where there is none.
 ghost use mathlib.Core.Path.{_≡_};
-ghost use mathlib.Core.Bool.{true, false};
-ghost use lib.IntN.{pos, negsuc, natAbs};
+ghost use lib.IntN.{pos};
 ghost use lib.Signed.{leZ};
 ghost use Rattle.bits.specs.Range as range;
 ghost use Rattle.limbs.specs.Buffer.{Outcome, unless, Decides};

@@ -4,7 +4,7 @@ ghost use Prim.Native.Nat.{_*_, _<_, _^_};
 ghost use lib.ListN.{length};
 ghost use Rattle.bits.specs.Testbit.{bitLength};
 ghost use Rattle.limbwords.specs.Value.{value, limbCount};
-ghost use Rattle.limbs.specs.Buffer.{Writes, integer, refusal};
+ghost use Rattle.limbs.specs.Buffer.{Writes, integer};
 ghost use Rattle.limbwords.specs.Results.{meaning, Proper};
 use super::Written;
 use super::answer::refuse;

@@ -1,5 +1,4 @@
 // Limbs put into a part of the output buffer, from one index up to, but not at, another.
-ghost use mathlib.Core.Path.{_≡_};
 ghost use Prim.Native.Nat.{_+_, _*_, _-_, _<_, _≤_, _^_};
 ghost use lib.ListN.{length};
 ghost use Rattle.limbwords.specs.Value.{value, bitsFrom};

@@ -1,6 +1,5 @@
 // The limbs of a described result, by a writer for each operation. Limbs that lie whole inside or outside a field are copied;
 // only those at its ends are put together bit by bit.
-ghost use mathlib.Core.Path.{_≡_};
 ghost use Prim.Native.Nat.{_-_, _<_, _≤_, _^_};
 ghost use lib.IntN.{pos};
 ghost use lib.ListN.{length};

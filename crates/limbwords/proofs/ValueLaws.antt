@@ -17,7 +17,7 @@ use Rattle.bits.specs.Division.{modℕ}
 use Rattle.bits.proofs.TestbitLaws.{testbit-ext, testbit-above, testbit-mag-lt, testbit-shiftRight, testbit-ofBits-lt, testbit-ofBits-ge, isNegative-ofBits, testbit-fill, isNegative-fill, isNegative-shiftRight}
 use Rattle.bits.proofs.LengthLaws.{bitLength-least-bits}
 use Rattle.bits.proofs.ShiftLaws.{shiftRight-above}
-use Rattle.bits.proofs.ModLaws.{modℕ-lt, modℕ-small}
+use Rattle.bits.proofs.ModLaws.{modℕ-small}
 use Rattle.bits.proofs.ValueLaws.{testbit-modℕ-pow, ofBits-modℕ}
 use Rattle.bits.proofs.FieldWords.{testbit-modℕ-lt}
 use Rattle.limbwords.specs.Value.{onTop, value, limbsOf, limbCount, shortest}

@@ -1,6 +1,6 @@
 // The limbs of an operand at any index, and its bits from any position on.
 ghost use mathlib.Core.Path.{_≡_};
-ghost use Prim.Native.Nat.{_+_, _*_, _/_, _%_, _<_, _≤_, _^_};
+ghost use Prim.Native.Nat.{_+_, _*_, _/_, _%_, _<_, _^_};
 ghost use lib.ListN.{length};
 ghost use Rattle.bits.specs.Shift.{shiftLeft};
 ghost use Rattle.limbwords.specs.Value.{value, bitsFrom, limbAt};

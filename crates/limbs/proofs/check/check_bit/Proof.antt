@@ -1,5 +1,5 @@
 -- `limbs::check::check_bit` meets its contract. Assumes nothing.
-use mathlib.Core.Path.{_≡_, sym, ap, _∙_}
+use mathlib.Core.Path.{sym, _∙_}
 use Rattle.bits.proofs.WordLaws.{back}
 use Rattle.limbs.specs.Buffer.{checked}
 use Rattle.limbs.specs.Operations.{operand}

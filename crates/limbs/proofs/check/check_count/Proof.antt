@@ -1,6 +1,6 @@
 -- `limbs::check::check_count` meets its contract. Assumes nothing.
-use mathlib.Core.Path.{_≡_, sym, ap, _∙_}
-use lib.IntN.{ℤ, pos}
+use mathlib.Core.Path.{sym, ap, _∙_}
+use lib.IntN.{pos}
 use lib.Signed.{leZ}
 use Rattle.bits.proofs.WordLaws.{back}
 use Rattle.limbs.specs.Buffer.{checked}

@@ -4,7 +4,7 @@ use mathlib.Core.List.{List}
 use Rattle.bits.proofs.WordLaws.{back}
 use Prim.Native.Nat.{ℕ}
 use Rattle.limbs.specs.Buffer.{Outcome, checked, Decides}
-use Rattle.limbs.specs.Operations.{operand, field}
+use Rattle.limbs.specs.Operations.{operand}
 use Rattle.limbs.proofs.OutcomeLaws.{passed, failed, checked-none, checked-refused, operand-twice}
 use borrow.Author.Needs.{needs}
 use Rattle.limbs.proofs.check.check_field.Statement.{statement}

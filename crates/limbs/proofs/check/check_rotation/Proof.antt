@@ -1,5 +1,5 @@
 -- `limbs::check::check_rotation` meets its contract. Assumes nothing.
-use mathlib.Core.Path.{_≡_, sym, ap, _∙_}
+use mathlib.Core.Path.{sym, ap, _∙_}
 use lib.IntN.{pos}
 use lib.Signed.{leZ}
 use Rattle.bits.proofs.WordLaws.{back}

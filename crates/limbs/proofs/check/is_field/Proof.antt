@@ -1,6 +1,5 @@
 -- `limbs::check::is_field` meets its contract. Assumes nothing.
-use mathlib.Core.Path.{_≡_, sym, ap, _∙_}
-use mathlib.Core.Bool.{Bool}
+use mathlib.Core.Path.{sym, ap, _∙_}
 use lib.IntN.{ℤ, pos}
 use lib.Signed.{leZ}
 use Rattle.bits.proofs.WordLaws.{back}

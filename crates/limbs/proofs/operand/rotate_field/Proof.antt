@@ -1,7 +1,7 @@
 -- `limbs::operand::rotate_field` meets its contract. Assumes nothing.
 use native.Mathlib.Omega.{arith}
 use Prim.Native.Nat.{_*_, _-_}
-use mathlib.Core.Path.{sym, ap}
+use mathlib.Core.Path.{ap}
 use lib.IntN.{pos}
 use Rattle.limbwords.specs.Value.{value}
 use Rattle.limbs.specs.Buffer.{integer}

@@ -1,6 +1,6 @@
 -- `limbs::write::write_shift_right` meets its contract. Assumes nothing.
 use native.Mathlib.Omega.{arith}
-use Prim.Native.Nat.{ℕ, _+_, _*_, _-_}
+use Prim.Native.Nat.{_+_, _*_, _-_}
 use mathlib.Core.Path.{_≡_, ap, _∙_}
 use Rattle.limbwords.specs.Value.{value, bitsFrom}
 use Rattle.limbwords.proofs.WindowLaws.{bitsFrom-shiftRight}

@@ -1,6 +1,6 @@
 -- `limbwords::logical::logical_limb` meets its contract. Assumes nothing.
 use Prim.Native.Nat.{ℕ, _*_}
-use mathlib.Core.Path.{ap, ap₂, _∙_}
+use mathlib.Core.Path.{ap₂, _∙_}
 use lib.IntN.{pos}
 use Rattle.bits.specs.Testbit.{testbit}
 use Rattle.limbwords.specs.Value.{value}

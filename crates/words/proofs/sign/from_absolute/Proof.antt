@@ -4,7 +4,6 @@ use mathlib.Core.Bool.{true, false}
 use borrow.Author.Needs.{needs}
 use Prim.Native.Nat.{ℕ, _<_, _^_}
 use lib.IntN.{ℤ}
-use lib.Signed.{mag}
 use Rattle.bits.specs.Testbit.{fits}
 use Rattle.bits.proofs.WordLaws.{back, sign-zero, sign-negative, sign-nonnegative, fits-mag, mag-ofMagnitude}
 use Rattle.words.proofs.sign.from_absolute.Statement.{statement}
