@@ -14,11 +14,11 @@ use Rattle.bits.specs.Logical.{bitwise, bitwiseNot, bitwiseAnd, bitwiseIor, bit
 use Rattle.bits.proofs.Booleans.{both-left, both-right}
 use Rattle.bits.proofs.TestbitLaws.{testbit-above}
 use Rattle.bits.proofs.LengthLaws.{bitLength-least-bits, bitLength-not}
-use Rattle.bits.proofs.LogicalLaws.{testbit-bitwise, isNegative-bitwise}
+use Rattle.bits.proofs.LogicalLaws.{testbit-bitwise, isNegative-bitwise, not-bitwise}
 use Rattle.limbs.specs.declared.Written.{Written}
 use Rattle.limbwords.specs.Value.{value}
 use Rattle.limbs.specs.Buffer.{Outcome, refused, integer, unless, checked, refusal, written, afterwards, Writes}
-use Rattle.limbs.specs.Operations.{mostLimbs, isOperand, operand}
+use Rattle.limbs.specs.Operations.{mostLimbs, isOperand, operand, notOutcome, bitwiseOutcome}
 use Rattle.limbwords.proofs.ValueLaws.{value-length}
 
 -- ---- stages
@@ -89,6 +89,11 @@ writes-refused out first e q = record {
 pub writes-as : {o p : Outcome} {out out′ : List ℕ} {first : ℕ} {r : Written} → o ≡ p → Writes p out first r out′ → Writes o out first r out′
 writes-as {out} {out′} {first} {r} e w = subst (λ (q : Outcome). Writes q out first r out′) (sym e) w
 
+-- not is a Boolean operation of its operand, taken twice
+pub not-as-bitwise : (xs : List ℕ) → notOutcome xs ≡ bitwiseOutcome (λ a b. not a) xs xs
+unfolding notOutcome bitwiseOutcome
+not-as-bitwise xs = ap (λ (z : ℤ). operand xs (integer z)) (not-bitwise (value xs)) ∙ sym (operand-twice xs (integer (bitwise (λ a b. not a) (value xs) (value xs))))
+
 -- ---- how long a result can be
 
 bitwise-length : (op : Bool → Bool → Bool) (x y : ℤ) (k : ℕ) → bitLength x ≤ k → bitLength y ≤ k → bitLength (bitwise op x y) ≤ k
@@ -97,9 +102,6 @@ bitwise-length op x y k h l =
     testbit-bitwise op x y i
     ∙ ap₂ op (testbit-above x i (omega arith)) (testbit-above y i (omega arith))
     ∙ sym (isNegative-bitwise op x y))
-
-pub not-enough : (xs : List ℕ) → 0 < length xs → bitLength (bitwiseNot (value xs)) < 32 * length xs
-not-enough xs h = subst (λ (k : ℕ). k < 32 * length xs) (sym (bitLength-not (value xs))) (value-length xs h)
 
 -- n limbs are enough for each operand
 pub bitwise-enough : (op : Bool → Bool → Bool) (xs ys : List ℕ) (n : ℕ) → 0 < length xs → 0 < length ys → length xs ≤ n → length ys ≤ n

@@ -63,11 +63,7 @@ pub struct Number {
 pub fn bitwise_not(x: &[u32], out: &mut [u32], first: u64) -> Written
     ensures { λ r. ⌜ Writes (notOutcome (now (x .entry))) (now (out .entry)) first r (now (out .exit)) ⌝ }
 {
-    let refusal = check_operands(x, x, x);
-    if refusal != 0 {
-        return refuse(refusal);
-    }
-    run(Operation::Not, x, x, x, x.len(), out, first)
+    combine_operands(Logic::Not, x, x, out, first)
 }
 
 // bitwise-and of two

@@ -1,7 +1,7 @@
 // The writers of the logical operations.
 ghost use Prim.Native.Nat.{_<_, _≤_};
 ghost use lib.ListN.{length};
-ghost use Rattle.bits.specs.Logical.{bitwiseNot, bitwise, bitwiseIf};
+ghost use Rattle.bits.specs.Logical.{bitwise, bitwiseIf};
 ghost use Rattle.limbwords.specs.Value.{value, limbAt};
 ghost use Rattle.limbs.specs.Buffer.{Puts};
 ghost use Rattle.limbwords.specs.Results.{logicOf};
@@ -9,22 +9,9 @@ use super::index::least;
 use limbwords::logical::combine;
 use limbwords::logical::if_limb;
 use limbwords::logical::logical_limb;
-use limbwords::logical::not_limb;
 use limbwords::result::Logic;
 
 // Each writer puts the limbs from one index up to, but not at, another into a part of the output buffer.
-pub fn write_not(x: &[u32], from: usize, to: usize, part: &mut [u32])
-    requires { ⌜ 0 < length (now x) ⌝ }
-    requires { ⌜ (from ≤ to) × (to ≤ length (now part)) ⌝ }
-    ensures { λ r. ⌜ Puts (limbAt (bitwiseNot (value (now (x .entry))))) (now (part .entry)) (now (part .exit)) from to ⌝ }
-{
-    let mut j = from;
-    while j < to {
-        part[j] = not_limb(x, j);
-        j += 1;
-    }
-}
-
 // Limbs that both operands have.
 fn write_common(by: Logic, x: &[u32], y: &[u32], to: usize, part: &mut [u32])
     requires { ⌜ (to ≤ length (now x)) × (to ≤ length (now y)) × (to ≤ length (now part)) ⌝ }

@@ -12,7 +12,6 @@ use super::index::first_past;
 use super::index::gap;
 use super::logical::write_if;
 use super::logical::write_logical;
-use super::logical::write_not;
 use super::segment::put_windows;
 use super::segment::put_zeros;
 use limbwords::field::reverse_limb;
@@ -218,7 +217,6 @@ pub fn write(operation: Operation, x: &[u32], y: &[u32], z: &[u32], n: usize, pa
     ensures { λ r. ⌜ Puts (limbAt (meaning operation (value (now (x .entry))) (value (now (y .entry))) (value (now (z .entry))))) (now (part .entry)) (now (part .exit)) 0 n ⌝ }
 {
     match operation {
-        Operation::Not => write_not(x, 0, n, part),
         Operation::Logical(by) => write_logical(by, x, y, n, part),
         Operation::If => write_if(x, y, z, 0, n, part),
         Operation::ShiftLeft { by } => write_shift_left(x, by, n, part),

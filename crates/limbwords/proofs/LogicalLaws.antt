@@ -1,8 +1,9 @@
 -- The logical operations on limbs. Assumes nothing.
 use Prim.Native.Nat.{ℕ, suc, _+_, _-_, _^_, _<_}
+use native.Mathlib.Nat.{zero-add}
 use native.Mathlib.Omega.{arith}
 use mathlib.Core.Path.{_≡_, sym, ap, ap₂, _∙_}
-use mathlib.Core.Bool.{Bool, _&&_, _||_}
+use mathlib.Core.Bool.{Bool, not, _&&_, _||_}
 use lib.Bits.{bitAnd, bitOr, and-lt, or-lt}
 use lib.IntN.{ℤ, pos}
 use lib.Pow.{pow-pos}
@@ -10,9 +11,9 @@ use Rattle.bits.specs.Testbit.{testbit}
 use Rattle.bits.specs.Logical.{bitwiseNot, bitwise, bitwiseAnd, bitwiseIor, bitwiseIf}
 use Rattle.bits.specs.Shift.{shiftRight}
 use Rattle.bits.specs.Division.{modℕ}
-use Rattle.bits.proofs.ModLaws.{modℕ-not}
-use Rattle.bits.proofs.ShiftLaws.{shiftRight-not}
-use Rattle.bits.proofs.LogicalLaws.{testbit-bitwise}
+use Rattle.bits.proofs.ModLaws.{modℕ-not, modℕ-small}
+use Rattle.bits.proofs.ShiftLaws.{shiftRight-zero, shiftRight-not}
+use Rattle.bits.proofs.LogicalLaws.{testbit-not, testbit-bitwise}
 use Rattle.bits.proofs.Digitwise.{testbit-digitwise, and-digitwise, ior-digitwise}
 use Rattle.limbwords.specs.Value.{bitsFrom}
 use Rattle.limbwords.proofs.LimbLaws.{bitsFrom-lt, testbit-bitsFrom, word-ext}
@@ -23,25 +24,36 @@ bitsFrom-not z at =
     let e : 4294967295 - modℕ (shiftRight z at) (2 ^ 32) ≡ 2 ^ 32 - suc (modℕ (shiftRight z at) (2 ^ 32)) = omega arith in
     e ∙ sym (modℕ-not (shiftRight z at) (2 ^ 32) (pow-pos 32)) ∙ ap (λ (y : ℤ). modℕ y (2 ^ 32)) (sym (shiftRight-not z at))
 
+-- the complement of a limb, bit by bit
+pub not-bits : (a : ℕ) → a < 2 ^ 32 → (t : ℕ) → t < 32 → testbit (pos (4294967295 - a)) t ≡ not (testbit (pos a) t)
+unfolding bitsFrom
+not-bits a h t k =
+    let low : bitsFrom (pos a) 0 ≡ a = ap (λ (y : ℤ). modℕ y (2 ^ 32)) (shiftRight-zero (pos a)) ∙ modℕ-small a (2 ^ 32) h in
+    ap (λ (n : ℕ). testbit (pos (4294967295 - n)) t) (sym low)
+    ∙ ap (λ (n : ℕ). testbit (pos n) t) (bitsFrom-not (pos a) 0)
+    ∙ testbit-bitsFrom (bitwiseNot (pos a)) 0 t k
+    ∙ ap (testbit (bitwiseNot (pos a))) (zero-add t)
+    ∙ testbit-not (pos a) t
+
 -- an operation on the digits of two limbs
 pub bitsFrom-bitwise : (op : Bool → Bool → Bool) (x y : ℤ) (at r : ℕ) → r < 2 ^ 32
-    → ((t : ℕ) → testbit (pos r) t ≡ op (testbit (pos (bitsFrom x at)) t) (testbit (pos (bitsFrom y at)) t)) → r ≡ bitsFrom (bitwise op x y) at
+    → ((t : ℕ) → t < 32 → testbit (pos r) t ≡ op (testbit (pos (bitsFrom x at)) t) (testbit (pos (bitsFrom y at)) t)) → r ≡ bitsFrom (bitwise op x y) at
 bitsFrom-bitwise op x y at r h e =
     word-ext r (bitwise op x y) at h (λ t k.
-    e t ∙ ap₂ op (testbit-bitsFrom x at t k) (testbit-bitsFrom y at t k) ∙ sym (testbit-bitwise op x y (at + t)))
+    e t k ∙ ap₂ op (testbit-bitsFrom x at t k) (testbit-bitsFrom y at t k) ∙ sym (testbit-bitwise op x y (at + t)))
 
 -- and of two limbs, as a limb of the and
 pub bitsFrom-and : (x y : ℤ) (at : ℕ) → bitAnd (bitsFrom x at) (bitsFrom y at) ≡ bitsFrom (bitwiseAnd x y) at
 unfolding bitwiseAnd
 bitsFrom-and x y at =
     bitsFrom-bitwise _&&_ x y at _ (and-lt 32 (bitsFrom x at) (bitsFrom y at) (bitsFrom-lt x at) (bitsFrom-lt y at))
-    (λ t. testbit-digitwise and-digitwise t (bitsFrom x at) (bitsFrom y at))
+    (λ t k. testbit-digitwise and-digitwise t (bitsFrom x at) (bitsFrom y at))
 
 pub bitsFrom-ior : (x y : ℤ) (at : ℕ) → bitOr (bitsFrom x at) (bitsFrom y at) ≡ bitsFrom (bitwiseIor x y) at
 unfolding bitwiseIor
 bitsFrom-ior x y at =
     bitsFrom-bitwise _||_ x y at _ (or-lt 32 (bitsFrom x at) (bitsFrom y at) (bitsFrom-lt x at) (bitsFrom-lt y at))
-    (λ t. testbit-digitwise ior-digitwise t (bitsFrom x at) (bitsFrom y at))
+    (λ t k. testbit-digitwise ior-digitwise t (bitsFrom x at) (bitsFrom y at))
 
 pub bitsFrom-if : (x y z : ℤ) (at : ℕ)
     → bitOr (bitAnd (bitsFrom x at) (bitsFrom y at)) (bitAnd (4294967295 - bitsFrom x at) (bitsFrom z at)) ≡ bitsFrom (bitwiseIf x y z) at

@@ -7,21 +7,21 @@ use Prim.Native.Nat.{ℕ, _-_, _^_, _≤_, _<_}
 use mathlib.Core.Bool.{Bool, cond, not, _&&_, _||_, xor}
 use lib.Dec.{ltb}
 use lib.IntN.{ℤ, pos}
-use Rattle.bits.specs.Logical.{bitwiseNot, bitwise, bitwiseIf}
+use Rattle.bits.specs.Logical.{bitwise, bitwiseIf}
 use Rattle.bits.specs.Shift.{shiftLeft, shiftRight}
 use Rattle.bits.specs.Field.{bitField, copyBitField, rotateBitField, reverseBitField}
 use Rattle.limbwords.specs.declared.result.Logic.{Logic}
-use Rattle.limbwords.specs.declared.result.Logic.the-variants.{And, Ior, Xor}
+use Rattle.limbwords.specs.declared.result.Logic.the-variants.{And, Ior, Xor, Not}
 use Rattle.limbwords.specs.declared.result.Operation.{Operation}
-use Rattle.limbwords.specs.declared.result.Operation.the-variants.{Not, Logical, If, ShiftLeft, ShiftRight, Field, CopyField, Rotate, Reverse}
+use Rattle.limbwords.specs.declared.result.Operation.the-variants.{Logical, If, ShiftLeft, ShiftRight, Field, CopyField, Rotate, Reverse}
 
 unfoldable pub logicOf : Logic → Bool → Bool → Bool
 logicOf And = _&&_
 logicOf Ior = _||_
 logicOf Xor = xor
+logicOf Not = λ a b. not a
 
 unfoldable pub meaning : Operation → ℤ → ℤ → ℤ → ℤ
-meaning Not x y z = bitwiseNot x
 meaning (Logical l) x y z = bitwise (logicOf l) x y
 meaning If x y z = bitwiseIf x y z
 meaning (ShiftLeft by) x y z = shiftLeft x by
@@ -33,7 +33,6 @@ meaning (Reverse start end) x y z = reverseBitField x start end
 
 -- a rotation is by at most the size of the field
 unfoldable pub Proper : Operation → Type 0
-Proper Not = Unit {0}
 Proper (Logical l) = Unit {0}
 Proper If = Unit {0}
 Proper (ShiftLeft by) = by < 2 ^ 32

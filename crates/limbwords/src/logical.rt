@@ -4,26 +4,20 @@ ghost use Prim.Native.Nat.{ℕ, _<_};
 ghost use lib.IntN.{pos};
 ghost use lib.ListN.{length};
 ghost use Rattle.bits.specs.Testbit.{testbit};
-ghost use Rattle.bits.specs.Logical.{bitwiseNot, bitwise, bitwiseIf};
+ghost use Rattle.bits.specs.Logical.{bitwise, bitwiseIf};
 ghost use Rattle.limbwords.specs.Value.{value, limbAt};
 ghost use Rattle.limbwords.specs.Results.{logicOf};
 use super::limb::limb;
 use super::result::Logic;
 
-pub fn not_limb(x: &[u32], j: usize) -> u32
-    requires { ⌜ 0 < length (now x) ⌝ }
-    ensures { λ r. ⌜ r ≡ limbAt (bitwiseNot (value (now (x .entry)))) j ⌝ }
-{
-    !limb(x, j)
-}
-
 pub fn combine(by: Logic, a: u32, b: u32) -> u32
-    ensures { λ r. ⌜ ((t : ℕ) → testbit (pos r) t ≡ logicOf by (testbit (pos a) t) (testbit (pos b) t)) ⌝ }
+    ensures { λ r. ⌜ ((t : ℕ) → t < 32 → testbit (pos r) t ≡ logicOf by (testbit (pos a) t) (testbit (pos b) t)) ⌝ }
 {
     match by {
         Logic::And => a & b,
         Logic::Ior => a | b,
         Logic::Xor => a ^ b,
+        Logic::Not => !a,
     }
 }
 

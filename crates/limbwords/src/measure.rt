@@ -12,7 +12,6 @@ use super::field::reverse_limb;
 use super::field::rotate_limb;
 use super::logical::if_limb;
 use super::logical::logical_limb;
-use super::logical::not_limb;
 use super::result::Operation;
 use super::shift::shift_left_limb;
 use super::shift::shift_right_limb;
@@ -25,7 +24,6 @@ pub fn limb_of(operation: Operation, x: &[u32], y: &[u32], z: &[u32], j: usize) 
     ensures { λ r. ⌜ r ≡ limbAt (meaning operation (value (now (x .entry))) (value (now (y .entry))) (value (now (z .entry)))) j ⌝ }
 {
     match operation {
-        Operation::Not => not_limb(x, j),
         Operation::Logical(by) => logical_limb(by, x, y, j),
         Operation::If => if_limb(x, y, z, j),
         Operation::ShiftLeft { by } => shift_left_limb(x, by, j),

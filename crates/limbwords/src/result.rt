@@ -1,14 +1,15 @@
 // The description of a result: which operation, with which numbers. The operands are handed beside it, and an operation that
 // takes fewer than three gets its first one again.
+// Not is of the first operand, whatever the second is.
 pub enum Logic {
     And,
     Ior,
     Xor,
+    Not,
 }
 
 // A field has the bits from start up to, but not at, end. CopyField takes its bits from the second operand.
 pub enum Operation {
-    Not,
     Logical(Logic),
     If,
     ShiftLeft { by: u64 },

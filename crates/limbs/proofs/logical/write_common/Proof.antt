@@ -57,8 +57,8 @@ loop-again c =
     let x = limb-value (a .args .x .now) j (λ i. c .before .before .shared-slice-known3 .given i .fits) (omega arith) in
     let y = limb-value (a .args .y .now) j (λ i. c .before .shared-slice-known4 .given i .fits) (omega arith) in
     turn-more _ (c .before .before .before .before .loop .inv)
-    (bitsFrom-bitwise (logicOf (a .args .by)) (value (a .args .x .now)) (value (a .args .y .now)) (32 * j) (c .combine .result) (c .combine .ok) (λ t.
-    c .combine .ensures t ∙ ap₂ (λ (m n : ℕ). logicOf (a .args .by) (testbit (pos m) t) (testbit (pos n) t)) x y))
+    (bitsFrom-bitwise (logicOf (a .args .by)) (value (a .args .x .now)) (value (a .args .y .now)) (32 * j) (c .combine .result) (c .combine .ok) (λ t k.
+    c .combine .ensures t k ∙ ap₂ (λ (m n : ℕ). logicOf (a .args .by) (testbit (pos m) t) (testbit (pos n) t)) x y))
     (c .before .before .before .loop-test .taken) (omega arith)
 
 same-length : tie.Need-same-length Inv-loop μ-loop

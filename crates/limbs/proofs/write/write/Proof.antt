@@ -11,20 +11,14 @@ use borrow.Author.Needs.{needs}
 use Rattle.limbs.proofs.write.write.Statement.{statement}
 use Rattle.limbs.proofs.write.write.Tie as tie
 
-enum-told : tie.Need-enum-told
-enum-told c = search needs
-
-write-not-requires : tie.Need-write-not-requires
-write-not-requires c κs = search needs
-
 enum-known-operation : tie.Need-enum-known-operation
 enum-known-operation c = search needs
 
 write-logical-requires : tie.Need-write-logical-requires
 write-logical-requires c κs = search needs
 
-enum-told-2 : tie.Need-enum-told-2
-enum-told-2 c = search needs
+enum-told : tie.Need-enum-told
+enum-told c = search needs
 
 write-if-requires : tie.Need-write-if-requires
 write-if-requires c κs = search needs
@@ -98,73 +92,64 @@ arm x y z p q n e = subst (λ (r : Operation). Puts (limbAt (meaning r x y z)) p
 
 returns : tie.Need-returns
 unfolding meaning
-returns c = arm _ _ _ _ _ _ (c .before .before .before .before .enum-told .given .1) (c .before .before .write-not .ensures)
+returns c = arm _ _ _ _ _ _ (c .before .before .before .before .before .operation .given .1) (c .before .before .write-logical .ensures)
 
 same-length-2 : tie.Need-same-length-2
 same-length-2 c = search needs
 
 returns-2 : tie.Need-returns-2
 unfolding meaning
-returns-2 c = arm _ _ _ _ _ _ (c .before .before .before .before .before .operation .given .1) (c .before .before .write-logical .ensures)
+returns-2 c = arm _ _ _ _ _ _ (c .before .before .before .before .enum-told .given .1) (c .before .before .write-if .ensures)
 
 same-length-3 : tie.Need-same-length-3
 same-length-3 c = search needs
 
 returns-3 : tie.Need-returns-3
 unfolding meaning
-returns-3 c = arm _ _ _ _ _ _ (c .before .before .before .before .enum-told2 .given .1) (c .before .before .write-if .ensures)
+returns-3 c = arm _ _ _ _ _ _ (c .before .before .before .before .before .operation2 .given .1) (c .before .before .write-shift-left .ensures)
 
 same-length-4 : tie.Need-same-length-4
 same-length-4 c = search needs
 
 returns-4 : tie.Need-returns-4
 unfolding meaning
-returns-4 c = arm _ _ _ _ _ _ (c .before .before .before .before .before .operation2 .given .1) (c .before .before .write-shift-left .ensures)
+returns-4 c = arm _ _ _ _ _ _ (c .before .before .before .before .before .operation3 .given .1) (c .before .before .write-shift-right .ensures)
 
 same-length-5 : tie.Need-same-length-5
 same-length-5 c = search needs
 
 returns-5 : tie.Need-returns-5
 unfolding meaning
-returns-5 c = arm _ _ _ _ _ _ (c .before .before .before .before .before .operation3 .given .1) (c .before .before .write-shift-right .ensures)
+returns-5 c = arm _ _ _ _ _ _ (c .before .before .before .before .before .operation4 .given .1) (c .before .before .write-field .ensures)
 
 same-length-6 : tie.Need-same-length-6
 same-length-6 c = search needs
 
 returns-6 : tie.Need-returns-6
 unfolding meaning
-returns-6 c = arm _ _ _ _ _ _ (c .before .before .before .before .before .operation4 .given .1) (c .before .before .write-field .ensures)
+returns-6 c = arm _ _ _ _ _ _ (c .before .before .before .before .before .operation5 .given .1) (c .before .before .write-copy-field .ensures)
 
 same-length-7 : tie.Need-same-length-7
 same-length-7 c = search needs
 
 returns-7 : tie.Need-returns-7
 unfolding meaning
-returns-7 c = arm _ _ _ _ _ _ (c .before .before .before .before .before .operation5 .given .1) (c .before .before .write-copy-field .ensures)
+returns-7 c = arm _ _ _ _ _ _ (c .before .before .before .before .before .operation6 .given .1) (c .before .before .write-rotate .ensures)
 
 same-length-8 : tie.Need-same-length-8
 same-length-8 c = search needs
 
 returns-8 : tie.Need-returns-8
 unfolding meaning
-returns-8 c = arm _ _ _ _ _ _ (c .before .before .before .before .before .operation6 .given .1) (c .before .before .write-rotate .ensures)
-
-same-length-9 : tie.Need-same-length-9
-same-length-9 c = search needs
-
-returns-9 : tie.Need-returns-9
-unfolding meaning
-returns-9 c = arm _ _ _ _ _ _ (c .before .before .before .before .before .operation7 .given .1) (c .before .before .write-reverse .ensures)
+returns-8 c = arm _ _ _ _ _ _ (c .before .before .before .before .before .operation7 .given .1) (c .before .before .write-reverse .ensures)
 
 pub write-spec : {M : Type 1} → statement M
 write-spec =
     tie.close
     (tie.spec
-    enum-told
-    write-not-requires
     enum-known-operation
     write-logical-requires
-    enum-told-2
+    enum-told
     write-if-requires
     enum-known-operation-2
     write-shift-left-requires
@@ -193,6 +178,4 @@ write-spec =
     same-length-7
     returns-7
     same-length-8
-    returns-8
-    same-length-9
-    returns-9)
+    returns-8)

@@ -22,8 +22,8 @@ combine-requires c κs = search needs
 returns : tie.Need-returns
 returns c =
     let a = c .before .before .before .before .before in
-    bitsFrom-bitwise (logicOf (a .args .by)) (value (a .args .x .now)) (value (a .args .y .now)) (32 * a .args .j) (c .combine .result) (c .combine .ok) (λ t.
-    c .combine .ensures t
+    bitsFrom-bitwise (logicOf (a .args .by)) (value (a .args .x .now)) (value (a .args .y .now)) (32 * a .args .j) (c .combine .result) (c .combine .ok) (λ t k.
+    c .combine .ensures t k
     ∙ ap₂ (λ (m n : ℕ). logicOf (a .args .by) (testbit (pos m) t) (testbit (pos n) t)) (c .before .before .limb .ensures) (c .before .limb2 .ensures))
 
 pub logical-limb-spec : {M : Type 1} → statement M

@@ -9,20 +9,14 @@ use borrow.Author.Needs.{needs}
 use Rattle.limbwords.proofs.measure.limb_of.Statement.{statement}
 use Rattle.limbwords.proofs.measure.limb_of.Tie as tie
 
-enum-told : tie.Need-enum-told
-enum-told c = search needs
-
-not-limb-requires : tie.Need-not-limb-requires
-not-limb-requires c κs = search needs
-
 enum-known-operation : tie.Need-enum-known-operation
 enum-known-operation c = search needs
 
 logical-limb-requires : tie.Need-logical-limb-requires
 logical-limb-requires c κs = search needs
 
-enum-told-2 : tie.Need-enum-told-2
-enum-told-2 c = search needs
+enum-told : tie.Need-enum-told
+enum-told c = search needs
 
 if-limb-requires : tie.Need-if-limb-requires
 if-limb-requires c κs = search needs
@@ -88,49 +82,43 @@ arm x y z at e = ap (λ (p : Operation). bitsFrom (meaning p x y z) at) (sym e)
 
 returns : tie.Need-returns
 unfolding meaning
-returns c = c .not-limb .ensures ∙ arm _ _ _ _ (c .before .enum-told .given .1)
+returns c = c .logical-limb .ensures ∙ arm _ _ _ _ (c .before .before .operation .given .1)
 
 returns-2 : tie.Need-returns-2
 unfolding meaning
-returns-2 c = c .logical-limb .ensures ∙ arm _ _ _ _ (c .before .before .operation .given .1)
+returns-2 c = c .if-limb .ensures ∙ arm _ _ _ _ (c .before .enum-told .given .1)
 
 returns-3 : tie.Need-returns-3
 unfolding meaning
-returns-3 c = c .if-limb .ensures ∙ arm _ _ _ _ (c .before .enum-told2 .given .1)
+returns-3 c = c .shift-left-limb .ensures ∙ arm _ _ _ _ (c .before .before .operation2 .given .1)
 
 returns-4 : tie.Need-returns-4
 unfolding meaning
-returns-4 c = c .shift-left-limb .ensures ∙ arm _ _ _ _ (c .before .before .operation2 .given .1)
+returns-4 c = c .shift-right-limb .ensures ∙ arm _ _ _ _ (c .before .before .operation3 .given .1)
 
 returns-5 : tie.Need-returns-5
 unfolding meaning
-returns-5 c = c .shift-right-limb .ensures ∙ arm _ _ _ _ (c .before .before .operation3 .given .1)
+returns-5 c = c .field-limb .ensures ∙ arm _ _ _ _ (c .before .before .operation4 .given .1)
 
 returns-6 : tie.Need-returns-6
 unfolding meaning
-returns-6 c = c .field-limb .ensures ∙ arm _ _ _ _ (c .before .before .operation4 .given .1)
+returns-6 c = c .copy-field-limb .ensures ∙ arm _ _ _ _ (c .before .before .operation5 .given .1)
 
 returns-7 : tie.Need-returns-7
 unfolding meaning
-returns-7 c = c .copy-field-limb .ensures ∙ arm _ _ _ _ (c .before .before .operation5 .given .1)
+returns-7 c = c .rotate-limb .ensures ∙ arm _ _ _ _ (c .before .before .operation6 .given .1)
 
 returns-8 : tie.Need-returns-8
 unfolding meaning
-returns-8 c = c .rotate-limb .ensures ∙ arm _ _ _ _ (c .before .before .operation6 .given .1)
-
-returns-9 : tie.Need-returns-9
-unfolding meaning
-returns-9 c = c .reverse-limb .ensures ∙ arm _ _ _ _ (c .before .before .operation7 .given .1)
+returns-8 c = c .reverse-limb .ensures ∙ arm _ _ _ _ (c .before .before .operation7 .given .1)
 
 pub limb-of-spec : {M : Type 1} → statement M
 limb-of-spec =
     tie.close
     (tie.spec
-    enum-told
-    not-limb-requires
     enum-known-operation
     logical-limb-requires
-    enum-told-2
+    enum-told
     if-limb-requires
     enum-known-operation-2
     shift-left-limb-requires
@@ -151,5 +139,4 @@ limb-of-spec =
     returns-5
     returns-6
     returns-7
-    returns-8
-    returns-9)
+    returns-8)
