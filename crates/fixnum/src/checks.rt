@@ -1,4 +1,4 @@
-// The tests behind refusals 1, 2, 3 and 5, which 01's tables give: width, code, argument count, domains.
+// The tests behind refusals 2, 3 and 5, which 01's tables give: code, argument count, domains.
 ghost use mathlib.Core.Path.{_≡_};
 ghost use mathlib.Core.Bool.{true, _&&_};
 ghost use lib.IntN.{pos, _-ℤ_};
@@ -9,10 +9,6 @@ ghost use Rattle.fixnum.specs.Table.{isCode, rowOf};
 ghost use Rattle.fixnum.specs.Calls.{isCount, counted};
 ghost use Rattle.fixnum.specs.Steps.{domainsOf};
 use words::sign::absolute;
-
-const LEAST_WIDTH: u64 = 24;
-
-const LARGEST_WIDTH: u64 = 62;
 
 const CODES: u64 = 41;
 
@@ -60,12 +56,6 @@ const COUNTS: [u64; 41] = [
     0x44, // 40 fxrotate-bit-field
     0x33, // 41 fxreverse-bit-field
 ];
-
-pub fn is_width(width: u64) -> bool
-    ensures { λ r. ⌜ r ≡ domains.isWidth width ⌝ }
-{
-    LEAST_WIDTH <= width && width <= LARGEST_WIDTH
-}
 
 pub fn is_code(code: u64) -> bool
     ensures { λ r. ⌜ r ≡ isCode code ⌝ }

@@ -22,13 +22,14 @@ mod fields;
 mod logical;
 mod loops;
 mod shifts;
+pub mod width;
 
 use checks::in_domains;
 use checks::is_code;
 use checks::is_count;
-use checks::is_width;
 use dispatch::operate;
 use loops::all_fixnums;
+use width::is_width;
 use words::sign::absolute_fits;
 use words::sign::from_absolute;
 

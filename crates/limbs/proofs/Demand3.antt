@@ -1,14 +1,13 @@
 -- Demand 3 for limbs: every list of rotate and reverse calls on a field, in any buffers with room. Assumes nothing.
-use Prim.Native.Nat.{ℕ, zero-le, _+_, _-_, _≤_, _<_, _^_}
+use Prim.Native.Nat.{ℕ, zero-le, _-_, _≤_, _<_, _^_}
 use native.Mathlib.Nat.{le-trans, le-of-lt, lt-of-lt-of-le}
 use native.Mathlib.Omega.{arith}
 use mathlib.Core.Path.{_≡_, refl, sym, ap, ap₂, _∙_, subst}
 use mathlib.Core.Bool.{Bool, true, false, cond, not, _&&_, _||_, true≢false}
-use mathlib.Core.List.{List, [], _∷_, _++_}
+use mathlib.Core.List.{List, [], _∷_}
 use lib.Dec.{eqb, leb, lit<}
 use lib.IntN.{ℤ, pos}
 use lib.ListN.{length, take, drop}
-use lib.Seq.{length-take-le, take-append-seam, drop-append-seam}
 use lib.Signed.{leZ}
 use borrow.Author.Tests.{le-leb, leb-true}
 use Rattle.bits.specs.Testbit.{isNegative, testbit, fits}
@@ -19,17 +18,18 @@ use Rattle.bits.specs.FieldList.{FieldCall, rotate, reverse, runCall, runCalls,
 use Rattle.bits.specs.Range.{within}
 use Rattle.bits.proofs.Booleans.{both-left, both-right}
 use Rattle.bits.proofs.LengthLaws.{fits-length, fits-not}
-use Rattle.bits.proofs.FitsLaws.{is-true, holds, pow-fits, bitwise-fits}
+use Rattle.bits.proofs.FitsLaws.{is-true, pow-fits, bitwise-fits}
 use Rattle.bits.proofs.ListTheorem.{ListLaw, list-theorem, calls-fit}
 use Rattle.limbs.specs.declared.Written.{Written}
-use Rattle.limbwords.specs.Value.{value, limbCount, shortest}
-use Rattle.limbs.specs.Buffer.{Outcome, integer, unless, room, laid, fitsIn, refusal, written, afterwards}
+use Rattle.limbwords.specs.Value.{value, shortest}
+use Rattle.limbs.specs.Buffer.{Outcome, integer, unless, room, fitsIn, refusal, written, afterwards}
 use Rattle.limbs.specs.Operations.{mostLimbs, isOperand, field, notOutcome, bitwiseOutcome, rotateOutcome, reverseOutcome, bitCountOutcome}
 use Rattle.limbs.specs.Lists.{Step, callsOf, outcomeOf, answerOf, handOn, hasRoom, runSteps, isDone, anyDone, resultOf, turned, ample, Run, ListStatement}
-use Rattle.limbwords.proofs.ValueLaws.{value-length, limbCount-positive, length-shortest, value-shortest}
+use Rattle.limbwords.proofs.ValueLaws.{value-length, value-shortest}
 use Rattle.limbs.proofs.OutcomeLaws.{passed, operand-passed, operand-length}
+use Rattle.limbs.proofs.WrittenLaws.{laid-copy, first-in, shortest-operand}
 
--- ---- legal limbs, and integers that fit 32,768 bits, which are 1,024 limbs
+-- ---- legal limbs, and integers that fit 32,768 bits, which are 1,024 limbs; `shortest-operand` is the converse
 
 operand-most : (x : List ℕ) → isOperand x ≡ true → length x ≤ mostLimbs
 unfolding isOperand
@@ -41,24 +41,7 @@ unfolding mostLimbs
 operand-fits x f =
     is-true (fits-length 32768 (value x) (lit< tt) .1 (omega (arith, operand-most x f, value-length x (operand-length x f))))
 
--- and the shortest limbs of such an integer are legal
-shortest-operand : (z : ℤ) → fits 32768 z ≡ true → isOperand (shortest z) ≡ true
-unfolding isOperand mostLimbs limbCount
-shortest-operand z f =
-    let l = length-shortest z in
-    let b = fits-length 32768 z (lit< tt) .0 (holds f) in
-    rw (le-leb 1 (length (shortest z)) (omega arith), le-leb (length (shortest z)) 1024 (omega arith)) refl
-
 -- ---- the answer of a step, and what it hands on
-
--- the limbs that were laid, read back
-laid-copy : (out : List ℕ) (first : ℕ) (xs : List ℕ) → first ≤ length out → take (length xs) (drop first (laid out first xs)) ≡ xs
-unfolding laid
-laid-copy out first xs h =
-    let rest = xs ++ drop (first + length xs) out in
-    ap (λ (n : ℕ). take (length xs) (drop n (take first out ++ rest))) (sym (length-take-le first out h))
-    ∙ ap (take (length xs)) (drop-append-seam (take first out) rest)
-    ∙ take-append-seam xs (drop (first + length xs) out)
 
 module _ (s : Step) (x : List ℕ) (z : ℤ) where
   abbrev answer : Outcome → Written
@@ -71,17 +54,12 @@ module _ (s : Step) (x : List ℕ) (z : ℤ) where
     pub handed : not (eqb (answer o .refusal) 8) ≡ true
         → cond (eqb (answer o .refusal) 0) (take (answer o .length) (drop (s .first) (afterwards o (s .out) (s .first)))) x ≡ cond d (shortest z) x
 
-  -- where z fits, the first limb lies in the buffer
-  first-in : fitsIn z (s .out) (s .first) ≡ true → s .first ≤ length (s .out)
-  unfolding fitsIn room
-  first-in e = omega (arith, leb-true (length (shortest z)) (length (s .out) - s .first) e, length-shortest z, limbCount-positive z)
-
   given : (d b : Bool) → fitsIn z (s .out) (s .first) ≡ b → Given d (unless d 5 (integer z))
   unfolding unless written afterwards refusal
   given true true e = record {
     fitting = λ r. rw e refl;
     ruled = λ r. rw e refl;
-    handed = λ r. rw e (laid-copy (s .out) (s .first) (shortest z) (first-in e));
+    handed = λ r. rw e (laid-copy (s .out) (s .first) (shortest z) (first-in z (s .out) (s .first) e));
   }
   given true false e = record {
     fitting = λ r. absurd (true≢false (sym r ∙ e));

@@ -4,5 +4,6 @@ pub mod OutcomeLaws
 pub mod StageLaws
 pub mod ShiftCalls
 pub mod NumberLaws
+pub mod WrittenLaws
 pub mod Demand3
 pub mod Cases

@@ -9,7 +9,7 @@ ghost use mathlib.Core.Bool.{_&&_, _||_, xor};
 ghost use Rattle.limbs.specs.Buffer.{Writes, integer, number};
 ghost use Rattle.limbs.specs.Operations.{notOutcome, bitwiseOutcome, ifOutcome, copyBitOutcome, bitFieldOutcome, copyBitFieldOutcome, shiftOutcome, shiftLeftOutcome, shiftRightOutcome, rotateOutcome, reverseOutcome, bitCountOutcome, lengthOutcome, firstBitSetOutcome, bitSetOutcome, wordOutcome};
 
-mod answer;
+pub mod answer;
 mod check;
 mod index;
 mod logical;

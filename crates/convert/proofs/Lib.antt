@@ -1,0 +1,3 @@
+pub mod ConvertLaws
+pub mod RoundTrip
+pub mod Cases

@@ -1,0 +1,61 @@
+-- `convert::limbs_to_fixnum` meets its contract. Assumes nothing.
+use mathlib.Core.Path.{_≡_, sym, ap, _∙_}
+use mathlib.Core.Bool.{true}
+use borrow.Author.Needs.{needs}
+use borrow.Author.Tests.{not-false}
+use Rattle.fixnum.specs.Domains.{isWidth}
+use Rattle.limbs.specs.Buffer.{number}
+use Rattle.limbs.proofs.OutcomeLaws.{failed-by}
+use Rattle.convert.specs.Convert.{toFixnumOutcome}
+use Rattle.convert.proofs.ConvertLaws.{word-width, no-word, large-word, small-word}
+use Rattle.convert.proofs.limbs_to_fixnum.Statement.{statement}
+use Rattle.convert.proofs.limbs_to_fixnum.Tie as tie
+
+width-ok : (c : tie.Else1) → isWidth (c .before .before .before .args .width) ≡ true
+width-ok c = sym (c .before .is-width .ensures) ∙ not-false _ (c .if1 .left)
+
+is-width-requires : tie.Need-is-width-requires
+is-width-requires c κs = search needs
+
+refuse-number-requires : tie.Need-refuse-number-requires
+refuse-number-requires c κs = search needs
+
+returns : tie.Need-returns
+unfolding toFixnumOutcome
+returns c = c .refuse-number .ensures ∙ sym (ap number (failed-by 1 _ (c .before .before .is-width .ensures) (c .before .if1 .taken)))
+
+to-word-requires : tie.Need-to-word-requires
+to-word-requires c κs = search needs
+
+returns-2 : tie.Need-returns-2
+returns-2 c = no-word _ _ (width-ok (c .before .before .before)) (c .before .before .to-word .ensures) (c .if2 .taken)
+
+is-fixnum-requires : tie.Need-is-fixnum-requires
+is-fixnum-requires c κs = word-width _ (width-ok (c .before .before .before .before))
+
+refuse-number-requires-2 : tie.Need-refuse-number-requires-2
+refuse-number-requires-2 c κs = search needs
+
+returns-3 : tie.Need-returns-3
+returns-3 c =
+    let e = c .before .before .before .before .before .before in
+    large-word _ _ (width-ok (e .before)) (e .to-word .ensures) (c .before .before .is-fixnum .ensures) (c .before .if3 .taken) (c .refuse-number2 .ensures)
+
+returns-4 : tie.Need-returns-4
+returns-4 c =
+    let e = c .before .before .before .before .before in
+    small-word _ _ (width-ok (e .before)) (e .to-word .ensures) (c .before .is-fixnum .ensures) (c .if3 .left)
+
+pub limbs-to-fixnum-spec : {M : Type 1} → statement M
+limbs-to-fixnum-spec =
+    tie.close
+    (tie.spec
+    is-width-requires
+    refuse-number-requires
+    returns
+    to-word-requires
+    returns-2
+    is-fixnum-requires
+    refuse-number-requires-2
+    returns-3
+    returns-4)

@@ -1,0 +1,45 @@
+// Limbs as a fixnum at a width, and a fixnum as limbs. Of the limb part this uses the contracts of `to_word` and `from_word`
+// alone: they speak of the integer and its shortest limbs, and not of how limbs are worked on.
+ghost use mathlib.Core.Path.{_≡_};
+ghost use Rattle.limbs.specs.Buffer.{Writes, number};
+ghost use Rattle.convert.specs.Convert.{toFixnumOutcome, toLimbsOutcome};
+
+use fixnum::width::is_width;
+use limbs::Number;
+use limbs::Written;
+use limbs::answer::refuse;
+use limbs::answer::refuse_number;
+use limbs::from_word;
+use limbs::to_word;
+use words::sign::is_fixnum;
+
+// Refusals in this order: 1 for the width, 7 for an operand of no limb or of more than 1,024, 6 for an integer that is no fixnum
+// at the width. One that is too large for a word is none at any width.
+pub fn limbs_to_fixnum(width: u64, x: &[u32]) -> Number
+    ensures { λ r. ⌜ r ≡ number (toFixnumOutcome width (now (x .entry))) ⌝ }
+{
+    if !is_width(width) {
+        return refuse_number(1);
+    }
+    let word = to_word(x);
+    if word.refusal != 0 {
+        return word;
+    }
+    if !is_fixnum(width, word.value) {
+        return refuse_number(6);
+    }
+    word
+}
+
+// Refusals in this order: 1 for the width, 4 for a number that is no fixnum at the width, 8 for a buffer that is too short.
+pub fn fixnum_to_limbs(width: u64, n: i64, out: &mut [u32], first: u64) -> Written
+    ensures { λ r. ⌜ Writes (toLimbsOutcome width n) (now (out .entry)) first r (now (out .exit)) ⌝ }
+{
+    if !is_width(width) {
+        return refuse(1);
+    }
+    if !is_fixnum(width, n) {
+        return refuse(4);
+    }
+    from_word(n, out, first)
+}
