@@ -2,14 +2,13 @@
 use native.Mathlib.Omega.{arith}
 use mathlib.Core.Path.{_≡_, refl, sym, ap, _∙_}
 use mathlib.Core.Bool.{true, not}
-use lib.IntN.{ℤ, pos, natAbs}
+use lib.IntN.{ℤ, natAbs}
 use lib.Signed.{mag}
 use mir.Syntax.{w64}
 use mir.Val.{toZ, ofZ}
 use Rattle.bits.proofs.WordLaws.{back}
-use Rattle.limbs.specs.Buffer.{integer}
 use Rattle.limbs.specs.Operations.{isOperand, shiftOutcome}
-use Rattle.limbs.proofs.StageLaws.{refused-call, done-call, one-operand, none-refused, operand-legal}
+use Rattle.limbs.proofs.StageLaws.{refused-call, done-call, one-operand, legal-one}
 use Rattle.bits.proofs.WordLaws.{position-tested, natural-pos}
 use Rattle.limbs.proofs.ShiftCalls.{shift-left, shift-right}
 use borrow.Author.Needs.{needs}
@@ -40,7 +39,7 @@ add-move-right c =
 
 legal : (c : tie.Else1) → isOperand (c .before .before .before .before .args .x .now) ≡ true
 legal c =
-    operand-legal _ _ (none-refused (one-operand _ (c .before .check-operands .ensures)) (c .if1 .left) (integer (pos 0))) .0
+    legal-one (c .if1 .left) _ (one-operand _ (c .before .check-operands .ensures))
 
 move-right-requires : tie.Need-move-right-requires
 move-right-requires c κs = legal (c .before .before .before)
