@@ -34,6 +34,7 @@ use words::sign::absolute_fits;
 use words::sign::from_absolute;
 
 // What a call answers: a refusal number, 0 for done, and two results, which are 0 where the call is refused.
+#[repr(C)]
 pub struct Answer {
     pub refusal: u64,
     pub first: i64,

@@ -48,12 +48,14 @@ use operand::take_field;
 use run::run;
 
 // What a call answers that writes an integer: a refusal number, 0 for done, and how many limbs it has written.
+#[repr(C)]
 pub struct Written {
     pub refusal: u64,
     pub length: u64,
 }
 
 // What a call answers that writes nothing: a refusal number, 0 for done, and a number, 0 where the call is refused.
+#[repr(C)]
 pub struct Number {
     pub refusal: u64,
     pub value: i64,
