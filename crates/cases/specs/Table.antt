@@ -51,6 +51,7 @@ minus n = negℤ (pos n)
 abbrev result : ℤ → Answer
 result n = done n (pos 0)
 
+-- On limbs -n is the limb 2^32 - n.
 unfoldable pub table : List Row
 table =
     -- M1 rotate 0x1234, 4, 12, 4
@@ -59,7 +60,7 @@ table =
     -- M2 reverse 82, 1, 4
     ∷ fixnum 24 41 (pos 82 ∷ pos 1 ∷ pos 4 ∷ []) (result (pos 88))
     ∷ writes (reverseOutcome (82 ∷ []) (pos 1) (pos 4)) (88 ∷ [])
-    -- M3 first-bit-set of 0; of -4, which is the limb 0xFFFFFFFC
+    -- M3 first-bit-set of 0; of -4
     ∷ fixnum 24 32 (pos 0 ∷ []) (result (minus 1))
     ∷ fixnum 24 32 (minus 4 ∷ []) (result (pos 2))
     ∷ counts (firstBitSetOutcome (0 ∷ [])) (minus 1)
@@ -69,7 +70,7 @@ table =
     ∷ fixnum 24 30 (minus 1 ∷ []) (result (minus 1))
     ∷ counts (bitCountOutcome (0xFFFFFFFE ∷ [])) (minus 2)
     ∷ counts (bitCountOutcome (0xFFFFFFFF ∷ [])) (minus 1)
-    -- M5 shift -23 by -2: -6, which is the limb 0xFFFFFFFA
+    -- M5 shift -23 by -2
     ∷ fixnum 24 37 (minus 23 ∷ minus 2 ∷ []) (result (minus 6))
     ∷ writes (shiftOutcome (0xFFFFFFE9 ∷ []) (minus 2)) (0xFFFFFFFA ∷ [])
     -- M6 length of -256; of -257

@@ -44,7 +44,7 @@ fn shift_fixnum(width: u64, x: i64, distance: i64) {
     print_answer(answer.refusal, answer.first);
 }
 
-// The limbs of a result are printed as the integer that they are.
+// The limbs of a result are printed as the integer that they are. A refused call has written none.
 fn shift_limbs(x: &[u32], distance: i64, out: &mut [u32]) {
     print(b"limbs, room ");
     print_natural(out.len() as u64);

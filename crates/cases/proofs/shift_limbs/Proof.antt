@@ -1,33 +1,18 @@
 -- `shift_limbs`: the limbs that a call has written lie within the buffer. Assumes nothing.
 use borrow.Author.Needs.{needs}
 use Prim.Native.Nat.{ℕ, _≤_}
-use mathlib.Core.Path.{_≡_, refl, sym, ap}
-use mathlib.Core.Bool.{Bool, true, false, cond}
+use mathlib.Core.Path.{_≡_, sym, ap}
 use mathlib.Core.List.{List}
-use lib.Dec.{leb}
 use lib.ListN.{length}
 use lib.Seq.{length-take-le}
 use native.Mathlib.Omega.{arith}
-use borrow.Author.Tests.{leb-true}
-use Rattle.limbwords.specs.Value.{shortest}
 use Rattle.limbs.specs.declared.Written.{Written}
-use Rattle.limbs.specs.Buffer.{Outcome, refused, integer, room, fitsIn, refusal, written, Writes}
+use Rattle.limbs.specs.Buffer.{Outcome, Writes}
+use Rattle.limbs.proofs.OutcomeLaws.{written-room}
 use Rattle.cases.proofs.shift_limbs.Statement.{statement}
 use Rattle.cases.proofs.shift_limbs.Tie as tie
 
-tested : (n k : ℕ) (t : Bool) → leb n k ≡ t → cond t (record { refusal = 0; length = n }) (refusal 8) .length ≤ k
-unfolding refusal
-tested n k true e = leb-true n k e
-tested n k false e = omega arith
-
--- a call reports no more limbs than there is room for
-written-room : (o : Outcome) (out : List ℕ) (first : ℕ) → written o out first .length ≤ room out first
-unfolding written refusal fitsIn
-written-room (refused k) out first = omega arith
-written-room (integer z) out first = tested (length (shortest z)) (room out first) (fitsIn z out first) refl
-
 written-within : {o : Outcome} {out out′ : List ℕ} {r : Written} → Writes o out 0 r out′ → length out′ ≡ length out → r .length ≤ length out′
-unfolding room
 written-within {o} {out} {out′} {r} w kept =
     omega (arith, ap (λ (a : Written). a .length) (w .answer), written-room o out 0, kept)
 
