@@ -1,13 +1,12 @@
--- Document 01's cases for limb calls, computed from the definitions, with a buffer of two limbs; and a list of calls. Assumes nothing.
+-- Refusals of limb calls, a list of calls, and calls that answer a number, computed from the definitions. Assumes nothing.
 use mathlib.Core.Path.{_≡_, refl}
-use mathlib.Core.Bool.{true, _&&_}
+use mathlib.Core.Bool.{true}
 use mathlib.Core.List.{List, [], _∷_}
 use Prim.Native.Nat.{ℕ}
 use lib.IntN.{pos, negsuc}
-use lib.ListN.{length}
 use Rattle.bits.specs.Testbit.{odd, testbit, halvings, bitLength, consBit, ofBits, isNegative, fits, fill}
-use Rattle.bits.specs.Logical.{bitwiseNot, bitwise}
-use Rattle.bits.specs.Shift.{floorDiv, shiftLeft, shiftRight, arithmeticShift}
+use Rattle.bits.specs.Logical.{bitwiseNot}
+use Rattle.bits.specs.Shift.{floorDiv, shiftRight}
 use Rattle.bits.specs.Division.{modℕ, «mod»}
 use Rattle.bits.specs.Field.{inField, setField, permuteField, rotateIndex, reverseIndex, rotateBitField, reverseBitField}
 use Rattle.bits.specs.FieldList.{rotate, reverse, countCall, netCountFrom, netCount}
@@ -15,38 +14,12 @@ use Rattle.bits.specs.Count.{onesBelow, ones, bitCount, firstTrue, firstBitSet}
 use Rattle.limbwords.specs.Value.{onTop, value, limbsOf, limbCount, shortest}
 use Rattle.limbs.specs.Buffer.{Outcome, refused, integer, unless, room, laid, fitsIn, refusal, written, afterwards, number}
 use Rattle.bits.specs.Range.{within}
-use Rattle.limbs.specs.Operations.{mostLimbs, isOperand, operand, field, sized, notOutcome, bitwiseOutcome, shiftOutcome, rotateOutcome, reverseOutcome, bitCountOutcome, lengthOutcome, firstBitSetOutcome, bitSetOutcome, wordOutcome}
+use Rattle.limbs.specs.Operations.{mostLimbs, isOperand, operand, field, notOutcome, rotateOutcome, reverseOutcome, bitCountOutcome, firstBitSetOutcome, bitSetOutcome, wordOutcome}
 use Rattle.limbs.specs.Lists.{Step, callsOf, outcomeOf, answerOf, handOn, hasRoom, runSteps, isDone}
 
 -- a buffer of two limbs after a call that writes from its start
 abbrev twoLimbs : Outcome → List ℕ
 twoLimbs o = afterwards o (7 ∷ 7 ∷ []) 0
-
--- a limb 0xFFFFFFFC is -4
-pub cases-M :
-    -- M1, M2
-    (twoLimbs (rotateOutcome (0x1234 ∷ []) (pos 4) (pos 12) (pos 4)) ≡ 0x1324 ∷ 7 ∷ [])
-    × (twoLimbs (reverseOutcome (82 ∷ []) (pos 1) (pos 4)) ≡ 88 ∷ 7 ∷ [])
-    -- M3
-    × (firstBitSetOutcome (0 ∷ []) ≡ integer (negsuc 0))
-    × (firstBitSetOutcome (0xFFFFFFFC ∷ []) ≡ integer (pos 2))
-    -- M4
-    × (bitCountOutcome (0xFFFFFFFE ∷ []) ≡ integer (negsuc 1))
-    × (bitCountOutcome (0xFFFFFFFF ∷ []) ≡ integer (negsuc 0))
-    -- M5: -23 by -2 is -6
-    × (twoLimbs (shiftOutcome (0xFFFFFFE9 ∷ []) (negsuc 1)) ≡ 0xFFFFFFFA ∷ 7 ∷ [])
-    -- M6
-    × (lengthOutcome (0xFFFFFF00 ∷ []) ≡ integer (pos 8))
-    × (lengthOutcome (0xFFFFFEFF ∷ []) ≡ integer (pos 9))
-    -- M13
-    × (twoLimbs (notOutcome (0x80000000 ∷ 0 ∷ [])) ≡ 0x7FFFFFFF ∷ 0xFFFFFFFF ∷ [])
-    -- M14
-    × (twoLimbs (bitwiseOutcome _&&_ (0xFFFFFFFF ∷ []) (0 ∷ 1 ∷ [])) ≡ 0 ∷ 1 ∷ [])
-unfolding odd testbit halvings bitLength consBit ofBits isNegative fill bitwiseNot bitwise floorDiv shiftLeft shiftRight arithmeticShift modℕ inField setField
-    permuteField rotateIndex reverseIndex rotateBitField reverseBitField onesBelow ones bitCount firstTrue firstBitSet onTop value limbsOf limbCount shortest
-    unless room laid fitsIn afterwards mostLimbs isOperand operand within field sized notOutcome bitwiseOutcome shiftOutcome rotateOutcome reverseOutcome
-    bitCountOutcome lengthOutcome firstBitSetOutcome
-cases-M = (refl, refl, refl, refl, refl, refl, refl, refl, refl, refl, refl)
 
 -- no limb, more room than none, a buffer one limb short, an empty field
 pub cases-refusals :

@@ -16,8 +16,8 @@ use Rattle.bits.proofs.TestbitLaws.{testbit-above}
 use Rattle.bits.proofs.LengthLaws.{bitLength-least-bits, bitLength-not}
 use Rattle.bits.proofs.LogicalLaws.{testbit-bitwise, isNegative-bitwise, not-bitwise}
 use Rattle.limbs.specs.declared.Written.{Written}
-use Rattle.limbwords.specs.Value.{value}
-use Rattle.limbs.specs.Buffer.{Outcome, refused, integer, unless, checked, refusal, written, afterwards, Writes}
+use Rattle.limbwords.specs.Value.{value, shortest}
+use Rattle.limbs.specs.Buffer.{Outcome, refused, integer, unless, checked, room, fitsIn, refusal, written, afterwards, Writes}
 use Rattle.limbs.specs.Operations.{mostLimbs, isOperand, operand, notOutcome, bitwiseOutcome}
 use Rattle.limbwords.proofs.ValueLaws.{value-length}
 
@@ -88,6 +88,16 @@ writes-refused out first e q = record {
 
 pub writes-as : {o p : Outcome} {out out′ : List ℕ} {first : ℕ} {r : Written} → o ≡ p → Writes p out first r out′ → Writes o out first r out′
 writes-as {out} {out′} {first} {r} e w = subst (λ (q : Outcome). Writes q out first r out′) (sym e) w
+
+-- a call reports no more limbs than the buffer has from the first on
+pub written-room : (o : Outcome) (out : List ℕ) (first : ℕ) → written o out first .length ≤ length out - first
+unfolding written refusal fitsIn room
+written-room (refused k) out first = omega arith
+written-room (integer z) out first = go (fitsIn z out first) refl
+  where
+    go : (t : Bool) → fitsIn z out first ≡ t → cond t (record { refusal = 0; length = length (shortest z) }) (refusal 8) .length ≤ length out - first
+    go true e = leb-true (length (shortest z)) (length out - first) e
+    go false e = omega arith
 
 -- not is a Boolean operation of its operand, taken twice
 pub not-as-bitwise : (xs : List ℕ) → notOutcome xs ≡ bitwiseOutcome (λ a b. not a) xs xs

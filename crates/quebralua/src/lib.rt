@@ -1,8 +1,9 @@
-// The C library: the fixnum calls and the limb calls under plain C names, with the contract of each. include/quebralua.h is
+// The C library: the fixnum calls, the limb calls and the conversions under plain C names, with the contract of each. include/quebralua.h is
 // the header. In C a slice is a pointer and a length.
 ghost use mathlib.Core.Path.{_≡_};
 ghost use mathlib.Core.Bool.{_&&_, _||_, xor};
 ghost use mathlib.Core.List.{[], _∷_};
+ghost use Rattle.convert.specs.Convert.{toFixnumOutcome, toLimbsOutcome};
 ghost use Rattle.fixnum.specs.Calls.{fixnumAnswer};
 ghost use Rattle.limbs.specs.Buffer.{Writes, number};
 ghost use Rattle.limbs.specs.Operations.{notOutcome, bitwiseOutcome, ifOutcome, copyBitOutcome, bitFieldOutcome, copyBitFieldOutcome, shiftOutcome, shiftLeftOutcome, shiftRightOutcome, rotateOutcome, reverseOutcome, bitCountOutcome, lengthOutcome, firstBitSetOutcome, bitSetOutcome};
@@ -208,4 +209,20 @@ pub extern "C" fn ql_bitwise_bit_set(x: &[u32], position: i64) -> Number
     ensures { λ r. ⌜ r ≡ number (bitSetOutcome (now (x .entry)) position) ⌝ }
 {
     limbs::bitwise_bit_set(x, position)
+}
+
+// Limbs as a fixnum at a width
+#[no_mangle]
+pub extern "C" fn ql_limbs_to_fixnum(width: u64, x: &[u32]) -> Number
+    ensures { λ r. ⌜ r ≡ number (toFixnumOutcome width (now (x .entry))) ⌝ }
+{
+    convert::limbs_to_fixnum(width, x)
+}
+
+// A fixnum at a width as limbs
+#[no_mangle]
+pub extern "C" fn ql_fixnum_to_limbs(width: u64, n: i64, out: &mut [u32], first: u64) -> Written
+    ensures { λ r. ⌜ Writes (toLimbsOutcome width n) (now (out .entry)) first r (now (out .exit)) ⌝ }
+{
+    convert::fixnum_to_limbs(width, n, out, first)
 }

@@ -1,0 +1,28 @@
+-- Document 01's cases M1 to M14, computed from the definitions of the calls. Assumes nothing.
+use mathlib.Core.Path.{_≡_, refl}
+use mathlib.Core.List.{map}
+use Rattle.bits.specs.Testbit.{odd, testbit, halvings, bitLength, consBit, ofBits, fits, isNegative, fill}
+use Rattle.bits.specs.Logical.{bitwiseNot, bitwise}
+use Rattle.bits.specs.Shift.{floorDiv, shiftLeft, shiftRight, arithmeticShift}
+use Rattle.bits.specs.Division.{div, modℕ, «mod», div0, mod0}
+use Rattle.bits.specs.Field.{inField, setField, permuteField, rotateIndex, reverseIndex, rotateBitField, reverseBitField, copyBitField, copyBit}
+use Rattle.bits.specs.Count.{onesBelow, ones, bitCount, firstTrue, firstBitSet}
+use Rattle.bits.specs.Range.{within}
+use Rattle.fixnum.specs.Answers as answers
+use Rattle.fixnum.specs.Domains.{leastWidth, largestWidth, isWidth, arg, accepts, inDomainsFrom, inDomains}
+use Rattle.fixnum.specs.Operations.{every, one, two, three, four, minus, carry, copyBitAt}
+use Rattle.fixnum.specs.Table.{rows, isCode, rowOf}
+use Rattle.fixnum.specs.Calls as calls
+use Rattle.limbwords.specs.Value.{onTop, value, limbsOf, limbCount, shortest}
+use Rattle.limbs.specs.Buffer.{unless, room, laid, fitsIn, written, afterwards, number}
+use Rattle.limbs.specs.Operations.{mostLimbs, isOperand, operand, field, sized, notOutcome, bitwiseOutcome, shiftOutcome, rotateOutcome, reverseOutcome, bitCountOutcome, lengthOutcome, firstBitSetOutcome}
+use Rattle.cases.specs.Table.{given, stated, table}
+
+pub cases-M : map given table ≡ map stated table
+unfolding odd testbit halvings bitLength consBit ofBits fits isNegative fill bitwiseNot bitwise floorDiv shiftLeft shiftRight arithmeticShift div modℕ «mod» div0 mod0
+    inField setField permuteField rotateIndex reverseIndex rotateBitField reverseBitField copyBitField copyBit onesBelow ones bitCount firstTrue firstBitSet
+    answers.done answers.refuse answers.unless leastWidth largestWidth isWidth arg within accepts inDomainsFrom inDomains every one two three four minus carry copyBitAt
+    rows isCode rowOf calls.counted calls.isCount calls.allFixnums calls.sized calls.outcome calls.fixnumAnswer
+    onTop value limbsOf limbCount shortest unless room laid fitsIn written afterwards number mostLimbs isOperand operand field sized
+    notOutcome bitwiseOutcome shiftOutcome rotateOutcome reverseOutcome bitCountOutcome lengthOutcome firstBitSetOutcome given stated table
+cases-M = refl
