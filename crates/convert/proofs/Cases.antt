@@ -63,7 +63,7 @@ cases-to-limbs = (refl, refl, refl, refl, refl, refl, refl, refl, refl, refl, re
 -- padded limbs of -2^61, to a fixnum and back
 pub case-back :
     copied (written (toLimbsOutcome 62 (number (toFixnumOutcome 62 (0 ∷ 0xE0000000 ∷ 0xFFFFFFFF ∷ [])) .value)) (7 ∷ 7 ∷ 7 ∷ []) 1) 1
-        (afterwards (toLimbsOutcome 62 (number (toFixnumOutcome 62 (0 ∷ 0xE0000000 ∷ 0xFFFFFFFF ∷ [])) .value)) (7 ∷ 7 ∷ 7 ∷ []) 1)
+    (afterwards (toLimbsOutcome 62 (number (toFixnumOutcome 62 (0 ∷ 0xE0000000 ∷ 0xFFFFFFFF ∷ [])) .value)) (7 ∷ 7 ∷ 7 ∷ []) 1)
     ≡ 0 ∷ 0xE0000000 ∷ []
 unfolding odd testbit halvings bitLength consBit ofBits fits fill floorDiv shiftRight modℕ leastWidth largestWidth isWidth onTop value limbsOf limbCount
     shortest unless room laid fitsIn written afterwards mostLimbs isOperand operand number toFixnumOutcome toLimbsOutcome copied
