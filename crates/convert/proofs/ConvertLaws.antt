@@ -1,6 +1,5 @@
--- The stages of a conversion, from what the calls below it answer: the width, the word, the fixnum. Assumes nothing.
-use Prim.Native.Nat.{ℕ, _-_, _≤_, _<_, _^_}
-use native.Mathlib.Omega.{arith}
+-- Limbs to a fixnum, from what the same limbs are as a word. Assumes nothing.
+use Prim.Native.Nat.{ℕ, _-_, _<_, _^_}
 use mathlib.Core.Path.{_≡_, refl, sym, ap, _∙_}
 use mathlib.Core.Bool.{Bool, true, false, cond, not, true≢false}
 use mathlib.Core.List.{List}
@@ -13,7 +12,7 @@ use borrow.Author.Tests.{lt-ltb, not-true, not-false}
 use Rattle.bits.specs.Testbit.{fits}
 use Rattle.bits.proofs.WordLaws.{back-word, fits-mag}
 use Rattle.fixnum.specs.Domains.{isWidth}
-use Rattle.fixnum.proofs.CallLaws.{width-bounds, fits-word}
+use Rattle.fixnum.proofs.CallLaws.{fits-word}
 use Rattle.limbwords.specs.Value.{value}
 use Rattle.limbs.specs.declared.Number.{Number}
 use Rattle.limbs.specs.Buffer.{Outcome, refused, integer, unless, number}
@@ -21,12 +20,7 @@ use Rattle.limbs.specs.Operations.{isOperand, operand, wordOutcome}
 use Rattle.limbs.proofs.OutcomeLaws.{passed, failed}
 use Rattle.convert.specs.Convert.{toFixnumOutcome}
 
--- what the test of a fixnum asks of the width
-pub word-width : (w : ℕ) → isWidth w ≡ true → (1 ≤ w) × (w ≤ 64)
-word-width w a = let b = width-bounds w a in (omega arith, omega arith)
-
--- ---- limbs to a fixnum: the outcome, from that of the same limbs to a word
-
+-- what the outcome for a word becomes at a width
 narrowed : ℕ → Outcome → Outcome
 narrowed w (refused k) = refused k
 narrowed w (integer z) = unless (fits w z) 6 (integer z)

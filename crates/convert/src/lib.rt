@@ -1,5 +1,5 @@
-// Limbs as a fixnum at a width, and a fixnum as limbs. Of the limb part this uses the contracts of `to_word` and `from_word`
-// alone: they speak of the integer and its shortest limbs, and not of how limbs are worked on.
+// Limbs as a fixnum at a width, and a fixnum as limbs. Of the limb part this uses `to_word`, `from_word` and the refused answers, by
+// their contracts alone: they speak of the integer and its shortest limbs, and not of how limbs are worked on.
 ghost use mathlib.Core.Path.{_≡_};
 ghost use Rattle.limbs.specs.Buffer.{Writes, number};
 ghost use Rattle.convert.specs.Convert.{toFixnumOutcome, toLimbsOutcome};

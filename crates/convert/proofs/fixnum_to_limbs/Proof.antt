@@ -1,4 +1,5 @@
 -- `convert::fixnum_to_limbs` meets its contract. Assumes nothing.
+use native.Mathlib.Omega.{arith}
 use mathlib.Core.Path.{_≡_, sym, ap, _∙_}
 use mathlib.Core.Bool.{true}
 use borrow.Author.Needs.{needs}
@@ -6,10 +7,10 @@ use borrow.Author.Tests.{not-false}
 use Rattle.bits.specs.Testbit.{fits}
 use Rattle.bits.proofs.WordLaws.{back}
 use Rattle.fixnum.specs.Domains.{isWidth}
+use Rattle.fixnum.proofs.CallLaws.{width-bounds}
 use Rattle.limbs.specs.Buffer.{integer}
 use Rattle.limbs.proofs.OutcomeLaws.{passed, failed-by, passed-by, writes-refused, writes-as}
 use Rattle.convert.specs.Convert.{toLimbsOutcome}
-use Rattle.convert.proofs.ConvertLaws.{word-width}
 use Rattle.convert.proofs.fixnum_to_limbs.Statement.{statement}
 use Rattle.convert.proofs.fixnum_to_limbs.Tie as tie
 
@@ -31,7 +32,9 @@ unfolding toLimbsOutcome
 returns c = writes-refused _ _ (failed-by 1 _ (c .before .before .is-width .ensures) (c .before .if1 .taken)) (c .refuse .ensures)
 
 is-fixnum-requires : tie.Need-is-fixnum-requires
-is-fixnum-requires c κs = word-width _ (width-ok c)
+is-fixnum-requires c κs =
+    let b = width-bounds _ (width-ok c) in
+    (omega arith, omega arith)
 
 refuse-requires-2 : tie.Need-refuse-requires-2
 refuse-requires-2 c κs = search needs

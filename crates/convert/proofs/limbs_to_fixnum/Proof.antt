@@ -1,13 +1,15 @@
 -- `convert::limbs_to_fixnum` meets its contract. Assumes nothing.
+use native.Mathlib.Omega.{arith}
 use mathlib.Core.Path.{_≡_, sym, ap, _∙_}
 use mathlib.Core.Bool.{true}
 use borrow.Author.Needs.{needs}
 use borrow.Author.Tests.{not-false}
 use Rattle.fixnum.specs.Domains.{isWidth}
+use Rattle.fixnum.proofs.CallLaws.{width-bounds}
 use Rattle.limbs.specs.Buffer.{number}
 use Rattle.limbs.proofs.OutcomeLaws.{failed-by}
 use Rattle.convert.specs.Convert.{toFixnumOutcome}
-use Rattle.convert.proofs.ConvertLaws.{word-width, no-word, large-word, small-word}
+use Rattle.convert.proofs.ConvertLaws.{no-word, large-word, small-word}
 use Rattle.convert.proofs.limbs_to_fixnum.Statement.{statement}
 use Rattle.convert.proofs.limbs_to_fixnum.Tie as tie
 
@@ -31,7 +33,9 @@ returns-2 : tie.Need-returns-2
 returns-2 c = no-word _ _ (width-ok (c .before .before .before)) (c .before .before .to-word .ensures) (c .if2 .taken)
 
 is-fixnum-requires : tie.Need-is-fixnum-requires
-is-fixnum-requires c κs = word-width _ (width-ok (c .before .before .before .before))
+is-fixnum-requires c κs =
+    let b = width-bounds _ (width-ok (c .before .before .before .before)) in
+    (omega arith, omega arith)
 
 refuse-number-requires-2 : tie.Need-refuse-number-requires-2
 refuse-number-requires-2 c κs = search needs
