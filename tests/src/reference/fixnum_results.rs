@@ -122,7 +122,7 @@ fn from_bits(width: u32, bits: impl Fn(i128) -> bool) -> i128 {
     }
 }
 
-/// The operations that replace a bit or take or rearrange a field, each bit as the papers place it.
+/// The operations that replace a bit or take or rearrange a field, each bit as R6RS and 01 place it.
 fn fields(code: u64, width: u32, args: &[i128]) -> i128 {
     let (x, start) = (args[0], args[1]);
     if code == 34 {

@@ -1,4 +1,4 @@
-//! What a result does to the caller's output buffer (the papers' work page).
+//! What a result does to the caller's output buffer (01's work page).
 
 use crate::refusal::ROOM;
 
