@@ -15,7 +15,8 @@ use Rattle.bits.proofs.ShiftLaws.{shiftRight-zero, shiftRight-compose}
 use borrow.Author.Tests.{le-leb, lt-leb, ltb-true, ltb-false, eqb-true, eqb-false}
 use borrow.Rule.Slice.PartMut.{putMid}
 use Rattle.limbwords.specs.Value.{bitsFrom, limbAt, limbsOf, limbCount, shortest}
-use Rattle.limbs.specs.Buffer.{Puts, integer, room, laid, fitsIn, refusal, written, afterwards}
+use Rattle.limbs.specs.Buffer.{integer, room, laid, fitsIn, refusal, written, afterwards}
+use Rattle.limbs.specs.Inner.{Puts}
 use Rattle.limbwords.proofs.ValueLaws.{length-limbsOf, length-shortest}
 
 -- the limbs of an integer, one by one

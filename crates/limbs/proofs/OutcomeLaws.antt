@@ -17,7 +17,8 @@ use Rattle.bits.proofs.LengthLaws.{bitLength-least-bits, bitLength-not}
 use Rattle.bits.proofs.LogicalLaws.{testbit-bitwise, isNegative-bitwise, not-bitwise}
 use Rattle.limbs.specs.declared.Written.{Written}
 use Rattle.limbwords.specs.Value.{value, shortest}
-use Rattle.limbs.specs.Buffer.{Outcome, refused, integer, unless, checked, room, fitsIn, refusal, written, afterwards, Writes}
+use Rattle.limbs.specs.Buffer.{Outcome, refused, integer, unless, room, fitsIn, refusal, written, afterwards, Writes}
+use Rattle.limbs.specs.Inner.{checked}
 use Rattle.limbs.specs.Operations.{mostLimbs, isOperand, operand, notOutcome, bitwiseOutcome}
 use Rattle.limbwords.proofs.ValueLaws.{value-length}
 

@@ -17,7 +17,8 @@ use Rattle.bits.proofs.TestbitLaws.{by-lt}
 use Rattle.bits.proofs.ShiftLaws.{shiftRight-zero, shiftLeft-zero-l}
 use Rattle.bits.proofs.LengthLaws.{bitLength-le}
 use Rattle.limbwords.specs.Value.{value, bitsFrom, limbsOf, limbCount}
-use Rattle.limbs.specs.Buffer.{refused, integer, unless, Decides}
+use Rattle.limbs.specs.Buffer.{refused, integer, unless}
+use Rattle.limbs.specs.Inner.{Decides}
 use Rattle.limbs.specs.Operations.{mostLimbs, isOperand, operand, sized}
 use Rattle.limbwords.proofs.ValueLaws.{pos-injective, value-length, value-limbsOf, limbCount-le}
 use Rattle.bits.proofs.LengthBounds.{shiftRight-length, shiftRight-beyond, shiftLeft-length, shiftLeft-length-exact}

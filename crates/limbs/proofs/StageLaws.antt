@@ -11,7 +11,8 @@ use lib.Signed.{leZ}
 use borrow.Author.Tests.{le-leb, leb-true}
 use Rattle.bits.specs.Range.{within}
 use Rattle.limbs.specs.declared.Written.{Written}
-use Rattle.limbs.specs.Buffer.{Outcome, integer, unless, Decides, refusal, Writes}
+use Rattle.limbs.specs.Buffer.{Outcome, integer, unless, refusal, Writes}
+use Rattle.limbs.specs.Inner.{Decides}
 use Rattle.limbs.specs.Operations.{isOperand, operand, field}
 use Rattle.limbs.proofs.OutcomeLaws.{checked-none, checked-refused, stage-passed, operand-twice, writes-refused, writes-as}
 

@@ -6,21 +6,15 @@
 --   written o out first        ==  the answer
 --   afterwards o out first     ==  the buffer afterwards: as it was, unless the call is done
 --   Writes o out first r out′  ==  r is the answer, and out′ the buffer afterwards
---   Puts f a b from to         ==  b is a, but for the limbs from one index up to, but not at, another: limb j of them is f j
---   checked k o                ==  o where the refusal number k is 0, else that refusal
---   Decides stages k           ==  k is what the stages of a call come to: their first refusal, or 0
---   Moved z y from to up down  ==  the bits of z from one position up to another are those of y, `up` places higher and `down` lower
---   Past at from to r          ==  r is the first limb, from one index up to another, that does not lie whole below the position `at`
 --   number o                   ==  the answer of a call that writes nothing
 -- The shortest limbs are written, or refusal 8 is given where they do not fit.
-use Prim.Native.Nat.{ℕ, _+_, _*_, _-_, _≤_, _<_}
+use Prim.Native.Nat.{ℕ, _+_, _-_}
 use mathlib.Core.Path.{_≡_}
 use mathlib.Core.Bool.{Bool, cond}
 use mathlib.Core.List.{List, _++_}
-use lib.Dec.{eqb, leb}
+use lib.Dec.{leb}
 use lib.IntN.{ℤ, pos}
-use Rattle.bits.specs.Testbit.{testbit}
-use lib.ListN.{length, getD, take, drop}
+use lib.ListN.{length, take, drop}
 use Rattle.limbs.specs.declared.Written.{Written}
 use Rattle.limbs.specs.declared.Number.{Number}
 use Rattle.limbwords.specs.Value.{shortest}
@@ -31,12 +25,6 @@ pub data Outcome : Type 0 where
 
 unfoldable pub unless : Bool → ℕ → Outcome → Outcome
 unless test k outcome = cond test outcome (refused k)
-
-unfoldable pub checked : ℕ → Outcome → Outcome
-checked k outcome = cond (eqb k 0) outcome (refused k)
-
-pub record Decides (stages : Outcome → Outcome) (k : ℕ) : Type 0 where
-  pub so : (outcome : Outcome) → stages outcome ≡ checked k outcome
 
 unfoldable pub room : List ℕ → ℕ → ℕ
 room out first = length out - first
@@ -62,22 +50,6 @@ afterwards (integer z) out first = cond (fitsIn z out first) (laid out first (sh
 pub record Writes (o : Outcome) (out : List ℕ) (first : ℕ) (r : Written) (out′ : List ℕ) : Type 0 where
   pub answer : r ≡ written o out first
   pub buffer : out′ ≡ afterwards o out first
-
-pub record Puts (f : ℕ → ℕ) (a b : List ℕ) (from to : ℕ) : Type 0 where
-  pub size : length b ≡ length a
-  pub inside : (j : ℕ) → from ≤ j → j < to → getD b j 0 ≡ f j
-  pub below : (j : ℕ) → j < from → getD b j 0 ≡ getD a j 0
-  pub above : (j : ℕ) → to ≤ j → getD b j 0 ≡ getD a j 0
-
-pub record Moved (z y : ℤ) (from to up down : ℕ) : Type 0 where
-  pub reach : down ≤ from + up
-  pub bits : (i : ℕ) → from ≤ i → i < to → testbit z i ≡ testbit y (i + up - down)
-
-pub record Past (at from to r : ℕ) : Type 0 where
-  pub low : from ≤ r
-  pub high : r ≤ to
-  pub below : (j : ℕ) → from ≤ j → j < r → 32 * j + 32 ≤ at
-  pub beyond : (j : ℕ) → r ≤ j → j < to → at < 32 * j + 32
 
 unfoldable pub number : Outcome → Number
 number (refused k) = record { refusal = k; value = pos 0 }

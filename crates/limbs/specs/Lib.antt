@@ -1,3 +1,4 @@
 pub mod Buffer
+pub mod Inner
 pub mod Operations
 pub mod Lists

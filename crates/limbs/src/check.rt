@@ -3,10 +3,11 @@ ghost use mathlib.Core.Path.{_≡_};
 ghost use lib.IntN.{pos};
 ghost use lib.Signed.{leZ};
 ghost use Rattle.bits.specs.Range as range;
-ghost use Rattle.limbs.specs.Buffer.{Outcome, unless, Decides};
+ghost use Rattle.limbs.specs.Buffer.{Outcome, unless};
+ghost use Rattle.limbs.specs.Inner.{Decides};
 ghost use Rattle.limbs.specs.Operations.{isOperand, operand, field};
 
-const MOST_LIMBS: usize = 1024;
+pub const MOST_LIMBS: usize = 1024;
 
 const LAST_END: i64 = 32767;
 

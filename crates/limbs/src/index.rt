@@ -1,7 +1,7 @@
 // Which of two indices or positions is less, which is more, and how far it is from one to the other.
 ghost use mathlib.Core.Path.{_≡_};
 ghost use Prim.Native.Nat.{_+_, _-_, _≤_};
-ghost use Rattle.limbs.specs.Buffer.{Past};
+ghost use Rattle.limbs.specs.Inner.{Past};
 
 pub fn least(a: usize, b: usize) -> usize
     ensures { λ r. ⌜ (r ≤ a) × (r ≤ b) ⌝ }

@@ -3,7 +3,7 @@ ghost use Prim.Native.Nat.{_<_, _≤_};
 ghost use lib.ListN.{length};
 ghost use Rattle.bits.specs.Logical.{bitwise, bitwiseIf};
 ghost use Rattle.limbwords.specs.Value.{value, limbAt};
-ghost use Rattle.limbs.specs.Buffer.{Puts};
+ghost use Rattle.limbs.specs.Inner.{Puts};
 ghost use Rattle.limbwords.specs.Results.{logicOf};
 use super::index::least;
 use limbwords::logical::combine;

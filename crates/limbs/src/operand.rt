@@ -13,6 +13,7 @@ ghost use Rattle.limbs.specs.Operations.{isOperand, sized, bitwiseOutcom
 ghost use Rattle.limbwords.specs.Results.{logicOf};
 use super::Written;
 use super::answer::refuse;
+use super::check::MOST_LIMBS;
 use super::check::check_operands;
 use super::index::most;
 use super::run::place;
@@ -20,8 +21,6 @@ use super::run::run;
 use limbwords::measure::measure;
 use limbwords::result::Logic;
 use limbwords::result::Operation;
-
-const MOST_LIMBS: usize = 1024;
 
 const MOST_BITS: u64 = 32768;
 

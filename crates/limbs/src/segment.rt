@@ -2,7 +2,7 @@
 ghost use Prim.Native.Nat.{_+_, _*_, _-_, _<_, _≤_, _^_};
 ghost use lib.ListN.{length};
 ghost use Rattle.limbwords.specs.Value.{value, bitsFrom};
-ghost use Rattle.limbs.specs.Buffer.{Puts};
+ghost use Rattle.limbs.specs.Inner.{Puts};
 use super::index::gap;
 use super::index::least;
 use limbwords::limb::join;

@@ -6,7 +6,7 @@ ghost use lib.ListN.{length};
 ghost use Rattle.bits.specs.Shift.{shiftLeft, shiftRight};
 ghost use Rattle.bits.specs.Field.{bitField, copyBitField, rotateBitField, reverseBitField};
 ghost use Rattle.limbwords.specs.Value.{value, limbAt};
-ghost use Rattle.limbs.specs.Buffer.{Puts, Moved};
+ghost use Rattle.limbs.specs.Inner.{Puts, Moved};
 ghost use Rattle.limbwords.specs.Results.{meaning, Proper};
 use super::index::first_past;
 use super::index::gap;

@@ -10,7 +10,8 @@ use Rattle.bits.proofs.WordLaws.{back, natural-pos}
 use Rattle.bits.specs.Field.{copyBit, copyBitField}
 use Rattle.bits.specs.Range.{within}
 use Rattle.limbwords.specs.Value.{value}
-use Rattle.limbs.specs.Buffer.{Decides, unless, integer}
+use Rattle.limbs.specs.Buffer.{unless, integer}
+use Rattle.limbs.specs.Inner.{Decides}
 use Rattle.limbs.specs.Operations.{mostLimbs, isOperand, operand, copyBitOutcome}
 use Rattle.limbwords.proofs.ValueLaws.{value-small}
 use Rattle.limbs.proofs.StageLaws.{refused-call, done-call, legal-bit, within-natural}

@@ -7,7 +7,8 @@ use lib.IntN.{natAbs}
 use Rattle.bits.proofs.WordLaws.{back}
 use Rattle.bits.specs.Field.{copyBitField}
 use Rattle.limbwords.specs.Value.{value}
-use Rattle.limbs.specs.Buffer.{Decides, integer}
+use Rattle.limbs.specs.Buffer.{integer}
+use Rattle.limbs.specs.Inner.{Decides}
 use Rattle.limbs.specs.Operations.{isOperand, operand, field, copyBitFieldOutcome}
 use Rattle.limbs.proofs.StageLaws.{refused-call, done-call, LegalField, legal-fields}
 use borrow.Author.Needs.{needs}

@@ -8,7 +8,8 @@ use lib.Signed.{leZ}
 use Rattle.bits.proofs.WordLaws.{back, natural-pos}
 use Rattle.bits.specs.Field.{rotateBitField}
 use Rattle.limbwords.specs.Value.{value}
-use Rattle.limbs.specs.Buffer.{Decides, unless, integer}
+use Rattle.limbs.specs.Buffer.{unless, integer}
+use Rattle.limbs.specs.Inner.{Decides}
 use Rattle.limbs.specs.Operations.{isOperand, operand, field, rotateOutcome}
 use Rattle.limbs.proofs.StageLaws.{refused-call, done-call, LegalField, legal-rotation}
 use borrow.Author.Needs.{needs}

@@ -1,7 +1,7 @@
 -- `limbs::check::check_bit` meets its contract. Assumes nothing.
 use mathlib.Core.Path.{sym, _∙_}
 use Rattle.bits.proofs.WordLaws.{back}
-use Rattle.limbs.specs.Buffer.{checked}
+use Rattle.limbs.specs.Inner.{checked}
 use Rattle.limbs.specs.Operations.{operand}
 use Rattle.limbs.proofs.OutcomeLaws.{passed, failed, passed-by, failed-by}
 use borrow.Author.Needs.{needs}

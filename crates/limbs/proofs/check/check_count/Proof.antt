@@ -3,7 +3,7 @@ use mathlib.Core.Path.{sym, ap, _∙_}
 use lib.IntN.{pos}
 use lib.Signed.{leZ}
 use Rattle.bits.proofs.WordLaws.{back}
-use Rattle.limbs.specs.Buffer.{checked}
+use Rattle.limbs.specs.Inner.{checked}
 use Rattle.limbs.specs.Operations.{operand}
 use Rattle.limbs.proofs.OutcomeLaws.{passed, failed, passed-by, failed-by}
 use borrow.Author.Needs.{needs}

@@ -3,7 +3,8 @@ use mathlib.Core.Path.{_≡_, sym, ap, _∙_}
 use mathlib.Core.List.{List}
 use Rattle.bits.proofs.WordLaws.{back}
 use Prim.Native.Nat.{ℕ}
-use Rattle.limbs.specs.Buffer.{Outcome, checked, Decides}
+use Rattle.limbs.specs.Buffer.{Outcome}
+use Rattle.limbs.specs.Inner.{checked, Decides}
 use Rattle.limbs.specs.Operations.{operand}
 use Rattle.limbs.proofs.OutcomeLaws.{passed, failed, checked-none, checked-refused, operand-twice}
 use borrow.Author.Needs.{needs}

@@ -1,6 +1,6 @@
 -- `limbs::check::check_operands` meets its contract. Assumes nothing.
 use mathlib.Core.Path.{_∙_}
-use Rattle.limbs.specs.Buffer.{checked}
+use Rattle.limbs.specs.Inner.{checked}
 use Rattle.limbs.specs.Operations.{operand}
 use Rattle.limbs.proofs.OutcomeLaws.{passed-by, failed-by}
 use borrow.Author.Needs.{needs}

@@ -3,7 +3,7 @@ use mathlib.Core.Path.{sym, ap, _∙_}
 use lib.IntN.{pos}
 use lib.Signed.{leZ}
 use Rattle.bits.proofs.WordLaws.{back}
-use Rattle.limbs.specs.Buffer.{checked, Decides}
+use Rattle.limbs.specs.Inner.{checked, Decides}
 use Rattle.limbs.specs.Operations.{operand, field}
 use Rattle.limbs.proofs.OutcomeLaws.{passed, failed, checked-none, checked-refused}
 use Rattle.limbs.proofs.StageLaws.{one-field}

@@ -5,7 +5,7 @@ use mathlib.Core.List.{List}
 use lib.IntN.{ℤ}
 use Rattle.limbwords.specs.declared.result.Operation.{Operation}
 use Rattle.limbwords.specs.Value.{limbAt}
-use Rattle.limbs.specs.Buffer.{Puts}
+use Rattle.limbs.specs.Inner.{Puts}
 use Rattle.limbwords.specs.Results.{meaning, Proper}
 use borrow.Author.Needs.{needs}
 use Rattle.limbs.proofs.write.write.Statement.{statement}
