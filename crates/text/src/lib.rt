@@ -1,0 +1,31 @@
+// Integers as text: decimal or, after 0x, hexadecimal digits, with or without a sign.
+mod digit;
+mod form;
+mod long;
+mod negate;
+mod spell;
+mod word;
+
+pub use long::read_limbs;
+pub use spell::spell_limbs;
+pub use word::read_word;
+
+// What a text is as one signed 64-bit word.
+pub enum Reading {
+    Number(i64),
+    Malformed,
+    TooLarge,
+}
+
+// What a text is as limbs: how many it has.
+pub enum LimbReading {
+    Limbs(u64),
+    Malformed,
+    TooLarge,
+}
+
+// What digits are as one word.
+pub enum Natural {
+    Value(u64),
+    Beyond,
+}
