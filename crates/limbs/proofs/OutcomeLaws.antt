@@ -136,3 +136,8 @@ if-enough xs ys zs n p q r h l m =
           (bitwise-length _&&_ (value xs) (value ys) (32 * n - 1) (omega arith) (omega arith))
           (bitwise-length _&&_ (bitwiseNot (value xs)) (value zs) (32 * n - 1) (omega arith) (omega arith)),
     )
+
+-- what a call that writes from the start has written lies within its buffer
+pub written-within : {o : Outcome} {out out′ : List ℕ} {r : Written} → Writes o out 0 r out′ → length out′ ≡ length out → r .length ≤ length out′
+written-within {o} {out} {out′} {r} w kept =
+    omega (arith, ap (λ (a : Written). a .length) (w .answer), written-room o out 0, kept)

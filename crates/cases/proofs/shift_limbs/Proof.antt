@@ -1,20 +1,12 @@
 -- `shift_limbs`: the limbs that a call has written lie within the buffer. Assumes nothing.
 use borrow.Author.Needs.{needs}
-use Prim.Native.Nat.{ℕ, _≤_}
-use mathlib.Core.Path.{_≡_, sym, ap}
-use mathlib.Core.List.{List}
+use Prim.Native.Nat.{_≤_}
+use mathlib.Core.Path.{sym}
 use lib.ListN.{length}
 use lib.Seq.{length-take-le}
-use native.Mathlib.Omega.{arith}
-use Rattle.limbs.specs.declared.Written.{Written}
-use Rattle.limbs.specs.Buffer.{Outcome, Writes}
-use Rattle.limbs.proofs.OutcomeLaws.{written-room}
+use Rattle.limbs.proofs.OutcomeLaws.{written-within}
 use Rattle.cases.proofs.shift_limbs.Statement.{statement}
 use Rattle.cases.proofs.shift_limbs.Tie as tie
-
-written-within : {o : Outcome} {out out′ : List ℕ} {r : Written} → Writes o out 0 r out′ → length out′ ≡ length out → r .length ≤ length out′
-written-within {o} {out} {out′} {r} w kept =
-    omega (arith, ap (λ (a : Written). a .length) (w .answer), written-room o out 0, kept)
 
 abbrev within : (c : tie.After-bitwise-shift) → c .bitwise-shift .result .length ≤ length (c .bitwise-shift .last .1 .1 .0)
 within c = written-within (c .bitwise-shift .ensures) (c .bitwise-shift .kept .1 .1 .0)

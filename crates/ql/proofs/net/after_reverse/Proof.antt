@@ -1,0 +1,18 @@
+use native.Mathlib.Omega.{arith}
+use Rattle.ql.proofs.NetLaws.{reverse-none, reverse-some}
+use Rattle.ql.proofs.net.after_reverse.Statement.{statement}
+use Rattle.ql.proofs.net.after_reverse.Tie as tie
+use Rattle.ql.proofs.net.after_reverse.Reads as reads
+use Rattle.ql.proofs.net.after_reverse.Lts as lts
+
+returns : tie.Need-returns
+returns c = λ h. reverse-none (c .before .args .size) (c .before .args .net) (omega arith)
+
+returns-2 : tie.Need-returns-2
+returns-2 c = λ h. absurd (omega (arith, h))
+
+returns-3 : tie.Need-returns-3
+returns-3 c = λ h. reverse-some (c .before .before .args .size) (c .before .before .args .net) (omega arith) h
+
+pub after-reverse-spec : {M : Type 1} → statement M
+after-reverse-spec = tie.close (tie.spec returns returns-2 returns-3)

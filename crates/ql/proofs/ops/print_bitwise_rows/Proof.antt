@@ -1,0 +1,45 @@
+use borrow.Author.Needs.{needs}
+use native.Mathlib.Omega.{arith}
+use Prim.Native.Nat.{_-_}
+use Rattle.ql.proofs.ops.print_bitwise_rows.Statement.{statement}
+use Rattle.ql.proofs.ops.print_bitwise_rows.Tie as tie
+use Rattle.ql.proofs.ops.print_bitwise_rows.Reads as reads
+use Rattle.ql.proofs.ops.print_bitwise_rows.Lts as lts
+use Rattle.ql.proofs.ops.print_bitwise_row.Reads as print-bitwise-row-reads
+
+abbrev Inv-loop : tie.InvT-loop
+Inv-loop index₀ index = Unit {0}
+
+abbrev μ-loop : tie.MeasureT-loop
+μ-loop index₀ index = 18 - index
+
+loop-holds : tie.Need-loop-holds Inv-loop μ-loop
+loop-holds c = tt
+
+print-bitwise-row-requires : tie.Need-print-bitwise-row-requires Inv-loop μ-loop
+print-bitwise-row-requires c κs = search needs
+
+add-index : tie.Need-add-index Inv-loop μ-loop
+add-index c = omega arith
+
+loop-less : tie.Need-loop-less Inv-loop μ-loop
+loop-less c = omega arith
+
+loop-again : tie.Need-loop-again Inv-loop μ-loop
+loop-again c = tt
+
+returns : tie.Need-returns Inv-loop μ-loop
+returns c = search needs
+
+pub print-bitwise-rows-spec : {M : Type 1} → statement M
+print-bitwise-rows-spec =
+    tie.close
+    (tie.spec
+    Inv-loop
+    μ-loop
+    loop-holds
+    print-bitwise-row-requires
+    add-index
+    loop-less
+    loop-again
+    returns)

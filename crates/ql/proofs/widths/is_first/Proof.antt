@@ -1,0 +1,49 @@
+use borrow.Author.Needs.{needs}
+use native.Mathlib.Omega.{arith}
+use Prim.Native.Nat.{_-_}
+use Rattle.ql.proofs.widths.is_first.Statement.{statement}
+use Rattle.ql.proofs.widths.is_first.Tie as tie
+use Rattle.ql.proofs.widths.is_first.Reads as reads
+use Rattle.ql.proofs.widths.is_first.Lts as lts
+use Rattle.ql.proofs.widths.agree.Reads as agree-reads
+
+abbrev Inv-loop : tie.InvT-loop
+Inv-loop request width v₀ v = Unit {0}
+
+abbrev μ-loop : tie.MeasureT-loop
+μ-loop request width v₀ v = width - v
+
+loop-holds : tie.Need-loop-holds Inv-loop μ-loop
+loop-holds c = tt
+
+agree-requires : tie.Need-agree-requires Inv-loop μ-loop
+agree-requires c κs = search needs
+
+returns : tie.Need-returns Inv-loop μ-loop
+returns c = search needs
+
+add-v : tie.Need-add-v Inv-loop μ-loop
+add-v c = omega arith
+
+loop-less : tie.Need-loop-less Inv-loop μ-loop
+loop-less c = omega arith
+
+loop-again : tie.Need-loop-again Inv-loop μ-loop
+loop-again c = tt
+
+returns-2 : tie.Need-returns-2 Inv-loop μ-loop
+returns-2 c = search needs
+
+pub is-first-spec : {M : Type 1} → statement M
+is-first-spec =
+    tie.close
+    (tie.spec
+    Inv-loop
+    μ-loop
+    loop-holds
+    agree-requires
+    returns
+    add-v
+    loop-less
+    loop-again
+    returns-2)
