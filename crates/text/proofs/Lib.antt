@@ -1,1 +1,4 @@
 pub mod Cases
+pub mod NumeralLaws
+pub mod ReadingParts
+pub mod ReadingLaws
