@@ -1,11 +1,15 @@
 // Limbs of -z from those of z.
 ghost use mathlib.Core.Path.{_≡_};
+ghost use mathlib.Core.Bool.{cond};
+ghost use Prim.Native.Nat.{_-_, _%_, _^_};
 ghost use lib.IntN.{negℤ};
 ghost use lib.ListN.{length};
 ghost use Rattle.limbwords.specs.Value.{value, limbsOf};
 
 // A limb of -z from that of z, and whether a lower limb of z is not 0.
-fn negated(n: u32, lower: bool) -> u32 {
+fn negated(n: u32, lower: bool) -> u32
+    ensures { λ r. ⌜ r ≡ cond lower (2 ^ 32 - 1 - n) ((2 ^ 32 - n) % 2 ^ 32) ⌝ }
+{
     if lower {
         !n
     } else if n == 0 {
