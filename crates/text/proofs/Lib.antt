@@ -4,4 +4,5 @@ pub mod NumeralLimbs
 pub mod ReadingParts
 pub mod ReadingLaws
 pub mod ReadingLimbs
+pub mod ReadingBuffer
 pub mod NegateLaws

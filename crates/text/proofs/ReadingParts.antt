@@ -102,6 +102,9 @@ module _ (cs : List ℕ) {p : Parts} {b : ℕ} (e : p ≡ parts cs) (f : b ≡ c
   rest-is : rest ≡ drop (digitsFrom cs) cs
   rest-is = whole-rest (p .start) cs ∙ ap (λ (n : ℕ). drop n cs) start-is
 
+  pub rest-length : length rest ≡ length cs - digitsFrom cs
+  rest-length = ap length rest-is ∙ length-drop (digitsFrom cs) cs
+
   pub too-short : length cs ≤ p .start → isInteger cs ≡ false
   unfolding isInteger
   too-short h = rw (le-ltb (digitsFrom cs) (length cs) (subst (λ (n : ℕ). length cs ≤ n) start-is h)) refl
