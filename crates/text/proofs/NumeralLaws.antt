@@ -16,7 +16,7 @@ use Rattle.text.specs.Numerals.{between, digit, areDigits, numeralFrom, 
 
 -- ---- one digit
 
-pub between-in : (low high c : ℕ) → low ≤ c → c ≤ high → between low high c ≡ true
+between-in : (low high c : ℕ) → low ≤ c → c ≤ high → between low high c ≡ true
 unfolding between
 between-in low high c h k = rw (le-leb low c h, le-leb c high k) refl
 
@@ -29,7 +29,7 @@ unfolding between
 between-above low high c h k = rw (le-leb low c h, lt-leb c high k) refl
 
 -- by the three ranges
-pub digit-by : (c : ℕ) {decimal upper lower : Bool} → between 48 57 c ≡ decimal → between 65 70 c ≡ upper → between 97 102 c ≡ lower
+digit-by : (c : ℕ) {decimal upper lower : Bool} → between 48 57 c ≡ decimal → between 65 70 c ≡ upper → between 97 102 c ≡ lower
     → digit c ≡ cond decimal (c - 48) (cond upper (c - 55) (cond lower (c - 87) 16))
 unfolding digit
 digit-by c p q r = rw (p, q, r) refl
@@ -52,10 +52,11 @@ digit-none c p q r = digit-by c p q r
 pub areDigits-append : (b : ℕ) (xs ys : List ℕ) → areDigits b (xs ++ ys) ≡ areDigits b xs && areDigits b ys
 unfolding areDigits
 areDigits-append b [] ys = refl
-areDigits-append b (c ∷ xs) ys = ap (λ (t : Bool). ltb (digit c) b && t) (areDigits-append b xs ys) ∙ sym (and-assoc (ltb (digit c) b) (areDigits b xs) (areDigits b ys))
+areDigits-append b (c ∷ xs) ys =
+    ap (λ (t : Bool). ltb (digit c) b && t) (areDigits-append b xs ys) ∙ sym (and-assoc (ltb (digit c) b) (areDigits b xs) (areDigits b ys))
 
 -- from an index on: the digit there, and the others
-pub areDigits-drop : (b : ℕ) (cs : List ℕ) (i : ℕ) → i < length cs → areDigits b (drop i cs) ≡ ltb (digit (getD cs i 0)) b && areDigits b (drop (i + 1) cs)
+areDigits-drop : (b : ℕ) (cs : List ℕ) (i : ℕ) → i < length cs → areDigits b (drop i cs) ≡ ltb (digit (getD cs i 0)) b && areDigits b (drop (i + 1) cs)
 unfolding areDigits
 areDigits-drop b cs i h = rw (add-one, drop-cons cs i 0 h) refl
 
@@ -69,10 +70,10 @@ pub areDigits-end : (b : ℕ) (cs : List ℕ) (i : ℕ) → length cs ≤ i → 
 unfolding areDigits
 areDigits-end b cs i h = rw (drop-of-length-le cs h) refl
 
-pub areDigits-left : (b : ℕ) (xs ys : List ℕ) → areDigits b (xs ++ ys) ≡ true → areDigits b xs ≡ true
+areDigits-left : (b : ℕ) (xs ys : List ℕ) → areDigits b (xs ++ ys) ≡ true → areDigits b xs ≡ true
 areDigits-left b xs ys e = both-left (areDigits b xs) (areDigits b ys) (sym (areDigits-append b xs ys) ∙ e)
 
-pub areDigits-right : (b : ℕ) (xs ys : List ℕ) → areDigits b (xs ++ ys) ≡ true → areDigits b ys ≡ true
+areDigits-right : (b : ℕ) (xs ys : List ℕ) → areDigits b (xs ++ ys) ≡ true → areDigits b ys ≡ true
 areDigits-right b xs ys e = both-right (areDigits b xs) (areDigits b ys) (sym (areDigits-append b xs ys) ∙ e)
 
 -- parts of digits are digits
@@ -84,7 +85,8 @@ areDigits-rest b n cs e = areDigits-right b (take n cs) (drop n cs) (ap (areDigi
 
 pub digit-at : (b : ℕ) (cs : List ℕ) (i : ℕ) → areDigits b cs ≡ true → i < length cs → digit (getD cs i 0) < b
 digit-at b cs i e h =
-    ltb-true (digit (getD cs i 0)) b (both-left (ltb (digit (getD cs i 0)) b) (areDigits b (drop (i + 1) cs)) (sym (areDigits-drop b cs i h) ∙ areDigits-rest b i cs e))
+    ltb-true (digit (getD cs i 0)) b
+    (both-left (ltb (digit (getD cs i 0)) b) (areDigits b (drop (i + 1) cs)) (sym (areDigits-drop b cs i h) ∙ areDigits-rest b i cs e))
 
 -- ---- their number
 
@@ -124,13 +126,11 @@ numeral-more b cs i h = rw (add-one, take-suc cs i 0 h) (numeralFrom-append b 0 
 -- the first digits are no more than all of them
 pub numeral-first : (b n : ℕ) (cs : List ℕ) → 0 < b → numeral b (take n cs) ≤ numeral b cs
 numeral-first b n cs h =
-    let m = numeral b (take n cs) in
-    let p = b ^ length (drop n cs) in
     omega (
       arith,
       ap (numeral b) (take-append-drop n cs),
       numeral-append b (take n cs) (drop n cs),
-      le-mul-of-pos-right m (one-le-pow (length (drop n cs)) b h),
+      le-mul-of-pos-right (numeral b (take n cs)) (one-le-pow (length (drop n cs)) b h),
     )
 
 pub numeral-lt : (b : ℕ) (cs : List ℕ) → areDigits b cs ≡ true → numeral b cs < b ^ length cs

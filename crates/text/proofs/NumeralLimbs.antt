@@ -74,7 +74,8 @@ module _ (cs : List ℕ) (e : areDigits 16 cs ≡ true) where
   upper left j h =
       let l : length (drop left cs) ≡ 8 * j = omega (arith, length-drop left cs) in
       let m : 4 * (8 * j) ≡ 32 * j = omega arith in
-      sym (ap₂ (λ (n p : ℕ). n / p) (ap (numeral 16) (sym (take-append-drop left cs))) (sym (ap (λ (k : ℕ). 16 ^ k) l ∙ hex-power (8 * j) ∙ ap (λ (k : ℕ). 2 ^ k) m))
+      sym (ap₂ (λ (n p : ℕ). n / p) (ap (numeral 16) (sym (take-append-drop left cs)))
+      (sym (ap (λ (k : ℕ). 16 ^ k) l ∙ hex-power (8 * j) ∙ ap (λ (k : ℕ). 2 ^ k) m))
       ∙ numeral-quotient 16 (take left cs) (drop left cs) (areDigits-rest 16 left cs e))
 
   -- the last eight of these digits, or all where there are fewer
@@ -103,14 +104,14 @@ module _ (cs : List ℕ) (e : areDigits 16 cs ≡ true) where
           ∙ sym (mod-eq-of-lt (numeral-below (take left cs) 8 (areDigits-first 16 left cs e) (omega (arith, length-take left cs))))
 
   -- eight digits, counted from the last, are a limb
-  pub digits-limb : (left j : ℕ) {from : ℕ} → left + 8 * j ≡ length cs → from ≡ left - 8
+  digits-limb : (left j : ℕ) {from : ℕ} → left + 8 * j ≡ length cs → from ≡ left - 8
       → numeral 16 (take (left - from) (drop from cs)) ≡ limbAt (pos (numeral 16 cs)) j
   digits-limb left j h f =
       ap (λ (n : ℕ). numeral 16 (take (left - n) (drop n cs))) f
       ∙ lower left (omega arith) ∙ ap (λ (n : ℕ). n % 2 ^ 32) (upper left j h) ∙ sym (limb-natural (numeral 16 cs) j)
 
   -- and above all of them comes 0
-  pub digits-above : (j : ℕ) → length cs ≤ 8 * j → 0 ≡ limbAt (pos (numeral 16 cs)) j
+  digits-above : (j : ℕ) → length cs ≤ 8 * j → 0 ≡ limbAt (pos (numeral 16 cs)) j
   digits-above j h =
       let m : 4 * (8 * j) ≡ 32 * j = omega arith in
       limb-above (numeral 16 cs) j (subst (λ (k : ℕ). numeral 16 cs < 2 ^ k) m (numeral-below cs (8 * j) e h))

@@ -36,7 +36,10 @@ word-room n h = omega (arith, bitLength-le (pos n) 64 h)
 
 module _ (n m : ℕ) (first : List ℕ) {out : List ℕ} (e : out ≡ limbsOf n (pos m) ++ drop n first) (h : bitLength (pos m) < 32 * n) where
   first-value : value (take n out) ≡ pos m
-  first-value = ap (λ (l : List ℕ). value (take n l)) e ∙ ap value (take-at (limbsOf n (pos m)) (drop n first) n (length-limbsOf n (pos m))) ∙ value-limbsOf n (pos m) h
+  first-value =
+      ap (λ (l : List ℕ). value (take n l)) e
+      ∙ ap value (take-at (limbsOf n (pos m)) (drop n first) n (length-limbsOf n (pos m)))
+      ∙ value-limbsOf n (pos m) h
 
   pub first-natural : isNegative (value (take n out)) ≡ false
   unfolding isNegative
@@ -70,15 +73,18 @@ module _ (cs : List ℕ) (k : ℕ) {p : Parts} {b : ℕ} (e : p ≡ parts cs) (f
   abbrev limbsFit : Bool
   limbsFit = (isHex cs || ltb (natAbs (integer cs)) (2 ^ 64)) && leb (enough cs) k
 
-  pub hexadecimal-fits : p .hexadecimal ≡ true → limbsFit ≡ leb ((length (take (length cs - p .start) (drop (p .start) cs)) + 7) / 8 + 1) k
+  abbrev digitsRead : List ℕ
+  digitsRead = take (length cs - p .start) (drop (p .start) cs)
+
+  pub hexadecimal-fits : p .hexadecimal ≡ true → limbsFit ≡ leb ((length digitsRead + 7) / 8 + 1) k
   unfolding enough
   hexadecimal-fits h = rw (sym (hexadecimal-is cs e f) ∙ h, rest-length cs e f) refl
 
-  pub decimal-fits : p .hexadecimal ≡ false → limbsFit ≡ ltb (numeral b (take (length cs - p .start) (drop (p .start) cs))) (2 ^ 64) && leb 3 k
+  pub decimal-fits : p .hexadecimal ≡ false → limbsFit ≡ ltb (numeral b digitsRead) (2 ^ 64) && leb 3 k
   unfolding enough
   decimal-fits h =
       rw (sym (hexadecimal-is cs e f) ∙ h)
-      (ap (λ (n : ℕ). ltb n (2 ^ 64) && leb 3 k) (ap natAbs (integer-is cs e f) ∙ natAbs-withSign (p .negative) (numeral b (take (length cs - p .start) (drop (p .start) cs)))))
+      (ap (λ (n : ℕ). ltb n (2 ^ 64) && leb 3 k) (ap natAbs (integer-is cs e f) ∙ natAbs-withSign (p .negative) (numeral b digitsRead)))
 
 pub limbs-malformed : (cs : List ℕ) (k : ℕ) (out : List ℕ) → isInteger cs ≡ false
     → (LimbReading.Malformed ≡ limbReading cs k) × Holds cs LimbReading.Malformed out
@@ -88,8 +94,10 @@ limbs-malformed cs k out e = (rw e refl, record { limbs = λ n q. let z : _≡_ 
 pub limbs-read : (cs : List ℕ) (k : ℕ) {z : ℤ} {fits : Bool} {r : LimbReading} {out : List ℕ} → isInteger cs ≡ true → integer cs ≡ z
     → (isHex cs || ltb (natAbs (integer cs)) (2 ^ 64)) && leb (enough cs) k ≡ fits → Lays z fits r out → (r ≡ limbReading cs k) × Holds cs r out
 unfolding limbReading
-limbs-read cs k {z} {fits} {r} {out} e f g w =
-    (w .answer ∙ sym (rw (e, g) (ap (λ (y : ℤ). cond fits (LimbReading.Limbs (limbCount y)) LimbReading.TooLarge) f)), record { limbs = λ n q. go fits w n q })
+limbs-read cs k {z} {fits} {r} {out} e f g w = (
+  w .answer ∙ sym (rw (e, g) (ap (λ (y : ℤ). cond fits (LimbReading.Limbs (limbCount y)) LimbReading.TooLarge) f)),
+  record { limbs = λ n q. go fits w n q },
+)
   where
     go : (t : Bool) → Lays z t r out → (n : ℕ) → r ≡ LimbReading.Limbs n → take n out ≡ shortest (integer cs)
     go true v n q =

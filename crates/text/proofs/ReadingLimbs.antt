@@ -54,7 +54,7 @@ mag-withSign true (suc n) = omega arith
 mag-withSign false n = le-refl n
 
 -- a sign takes no more bits than the number has
-pub signed-length : (negative : Bool) (n k : ℕ) → bitLength (pos n) < k → bitLength (withSign negative n) < k
+signed-length : (negative : Bool) (n k : ℕ) → bitLength (pos n) < k → bitLength (withSign negative n) < k
 signed-length negative n k h =
     let l = lt-of-le-of-lt (mag-withSign negative n) (mag-lt (pos n) (bitLength (pos n)) (le-refl (bitLength (pos n)))) in
     omega (arith, bitLength-le (withSign negative n) (bitLength (pos n)) l)
@@ -65,7 +65,8 @@ module _ (negative : Bool) (xs : List ℕ) (p : isNegative (value xs) ≡ false)
   signed = withSign negative (natAbs (value xs))
 
   pub positive-limbs : ((i : ℕ) → getD xs i 0 < 2 ^ 32) → negative ≡ false → xs ≡ limbsOf (length xs) signed
-  positive-limbs b e = sym (ap (limbsOf (length xs)) (ap (λ (t : Bool). withSign t (natAbs (value xs))) e ∙ without-sign (value xs) p) ∙ limbsOf-value xs b)
+  positive-limbs b e =
+      sym (ap (limbsOf (length xs)) (ap (λ (t : Bool). withSign t (natAbs (value xs))) e ∙ without-sign (value xs) p) ∙ limbsOf-value xs b)
 
   pub negative-limbs : {out : List ℕ} → negative ≡ true → out ≡ limbsOf (length xs) (negℤ (value xs)) → out ≡ limbsOf (length xs) signed
   negative-limbs e f =
@@ -76,9 +77,11 @@ module _ (negative : Bool) (xs : List ℕ) (p : isNegative (value xs) ≡ false)
   module _ {out : List ℕ} (h : 0 < length xs) (e : out ≡ limbsOf (length xs) signed) where
     room : bitLength signed < 32 * length xs
     unfolding withSign
-    room = signed-length negative (natAbs (value xs)) (32 * length xs) (subst (λ (z : ℤ). bitLength z < 32 * length xs) (sym (without-sign (value xs) p)) (value-length xs h))
+    room =
+        signed-length negative (natAbs (value xs)) (32 * length xs)
+        (subst (λ (z : ℤ). bitLength z < 32 * length xs) (sym (without-sign (value xs) p)) (value-length xs h))
 
-    pub signed-count : limbCount (value out) ≡ limbCount signed
+    signed-count : limbCount (value out) ≡ limbCount signed
     signed-count = ap limbCount (ap value e ∙ value-limbsOf (length xs) signed room)
 
     within : limbCount signed ≤ length xs
@@ -87,5 +90,10 @@ module _ (negative : Bool) (xs : List ℕ) (p : isNegative (value xs) ≡ false)
     pub signed-limbs : {r : ℕ} → r ≡ limbCount (value out) → (r ≡ limbCount signed) × ((take r out ≡ shortest signed) × (r ≤ length out))
     unfolding shortest
     signed-limbs {r} c =
-        let d = c ∙ signed-count in
-        (d, (ap₂ take d e ∙ take-limbsOf (limbCount signed) (length xs) signed within, omega (arith, d, within, ap length e, length-limbsOf (length xs) signed)))
+        let d = c ∙ signed-count in (
+          d,
+          (
+            ap₂ take d e ∙ take-limbsOf (limbCount signed) (length xs) signed within,
+            omega (arith, d, within, ap length e, length-limbsOf (length xs) signed),
+          ),
+        )

@@ -54,7 +54,7 @@ prefix-in cs i e =
     go false true p q r = omega (arith, byte-in cs (i + 1) 88 (eqb-true (byteAt cs (i + 1)) 88 q) (lit< tt))
     go false false p q r = absurd (subst T (sym r) tt)
 
-pub digitsFrom-in : (cs : List ℕ) → digitsFrom cs ≤ length cs
+digitsFrom-in : (cs : List ℕ) → digitsFrom cs ≤ length cs
 unfolding digitsFrom isHex
 digitsFrom-in cs = go (isPrefix cs (afterSign cs)) refl
   where
@@ -83,7 +83,7 @@ module _ (cs : List ℕ) {p : Parts} {b : ℕ} (e : p ≡ parts cs) (f : b ≡ c
   unfolding parts
   start-is = ap (λ (q : Parts). q .start) e
 
-  pub negative-is : p .negative ≡ isMinus cs
+  negative-is : p .negative ≡ isMinus cs
   unfolding parts
   negative-is = ap (λ (q : Parts). q .negative) e
 

@@ -38,7 +38,9 @@ returns-2 : tie.Need-returns-2
 returns-2 c =
     let d = c .before .before .before .before .before .before in
     let a = d .before .before .before .before .before .args in
-    lays-as (c .before .before .sign-first .ensures) (first-signed _ _ (a .out .now) (d .put-digits .ensures .1) (room d) (a .negative)) (le-leb ((length (a .digits .now) + 7) / 8 + 1) (length (a .out .now)) (omega arith))
+    lays-as (c .before .before .sign-first .ensures)
+    (first-signed _ _ (a .out .now) (d .put-digits .ensures .1) (room d) (a .negative))
+    (le-leb ((length (a .digits .now) + 7) / 8 + 1) (length (a .out .now)) (omega arith))
 
 pub read-hexadecimal-spec : {M : Type 1} → statement M
 read-hexadecimal-spec =

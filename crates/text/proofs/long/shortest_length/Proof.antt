@@ -46,7 +46,8 @@ returns : tie.Need-returns Inv-loop μ-loop
 returns c =
     let l = c .before .before .before .before .before in
     let k = c .before .before .before .before in
-    stays (l .before .before .args .x .now) (λ i. l .before .shared-slice-known .given i .fits) (l .loop .n) (k .loop-test .taken) (l .loop .inv .0 .1) (l .loop .inv .1) (c .before .continuing .ensures) (c .if1 .taken)
+    stays (l .before .before .args .x .now) (λ i. l .before .shared-slice-known .given i .fits) (l .loop .n)
+    (k .loop-test .taken) (l .loop .inv .0 .1) (l .loop .inv .1) (c .before .continuing .ensures) (c .if1 .taken)
 
 sub-n : tie.Need-sub-n Inv-loop μ-loop
 sub-n c = omega arith
@@ -57,8 +58,11 @@ loop-less c = omega arith
 loop-again : tie.Need-loop-again Inv-loop μ-loop
 loop-again c =
     let l = c .before .before .before .before .before in
-    let k = c .before .before .before .before in
-    ((omega arith, omega arith), can-go (l .before .before .args .x .now) (λ i. l .before .shared-slice-known .given i .fits) (l .loop .n) (k .loop-test .taken) (l .loop .inv .0 .1) (l .loop .inv .1) (c .before .continuing .ensures) (c .if1 .left))
+    let k = c .before .before .before .before in (
+      (omega arith, omega arith),
+      can-go (l .before .before .args .x .now) (λ i. l .before .shared-slice-known .given i .fits) (l .loop .n)
+          (k .loop-test .taken) (l .loop .inv .0 .1) (l .loop .inv .1) (c .before .continuing .ensures) (c .if1 .left),
+    )
 
 returns-2 : tie.Need-returns-2 Inv-loop μ-loop
 returns-2 c =

@@ -62,8 +62,10 @@ part-sum-digits-end c = search needs
 
 sum-digits-requires : tie.Need-sum-digits-requires
 sum-digits-requires c κs =
-    let d = c .before .before in
-    (⊎-elim (λ w. (omega (arith, w .1), omega (arith, w .1))) (λ w. (omega (arith, w .1), omega (arith, w .1))) (d .before .before .before .if1 .came), sym (d .are-digits .ensures) ∙ not-false _ (c .before .if3 .left))
+    let d = c .before .before in (
+      ⊎-elim (λ w. (omega (arith, w .1), omega (arith, w .1))) (λ w. (omega (arith, w .1), omega (arith, w .1))) (d .before .before .before .if1 .came),
+      sym (d .are-digits .ensures) ∙ not-false _ (c .before .if3 .left),
+    )
 
 enum-known-n : tie.Need-enum-known-n
 enum-known-n c = search needs
