@@ -1,3 +1,4 @@
 pub mod Numerals
 pub mod Readings
 pub mod Spellings
+pub mod Inner

@@ -1,23 +1,24 @@
 // A text as limbs.
 ghost use mathlib.Core.Path.{_≡_};
-ghost use mathlib.Core.Bool.{true};
+ghost use mathlib.Core.Bool.{true, false, _&&_};
 ghost use mathlib.Core.List.{_++_};
-ghost use Prim.Native.Nat.{_<_, _≤_, _+_, _-_, _*_, _/_, _^_};
-ghost use lib.IntN.{pos};
-ghost use lib.ListN.{length, drop};
+ghost use Prim.Native.Nat.{_<_, _≤_, _+_, _/_, _^_};
+ghost use lib.Dec.{leb, ltb};
+ghost use lib.IntN.{pos, natAbs};
+ghost use lib.ListN.{length, take, drop};
+ghost use Rattle.bits.specs.Testbit.{isNegative};
 ghost use Rattle.bits.specs.Sign.{withSign};
-ghost use Rattle.limbwords.specs.Value.{value, limbCount, limbsOf};
+ghost use Rattle.limbwords.specs.Value.{value, limbCount, limbsOf, shortest};
+ghost use Rattle.limbwords.specs.Results.{continued};
 ghost use Rattle.text.specs.Numerals.{areDigits, numeral};
 ghost use Rattle.text.specs.Readings.{Holds, limbReading};
+ghost use Rattle.text.specs.Inner.{Lays};
 use super::LimbReading;
 use super::Natural;
 use super::digit::are_digits;
 use super::form::take_apart;
 use super::negate::negate;
 use super::word::sum_digits;
-use limbwords::measure::measure;
-use limbwords::result::Logic;
-use limbwords::result::Operation;
 
 // Up to eight hexadecimal digits as a limb.
 fn digits_limb(digits: &[u8]) -> u32
@@ -59,22 +60,78 @@ fn put_word(n: u64, out: &mut [u32])
     out[2] = 0;
 }
 
-// How many limbs the integer has in its shortest form.
-fn shortest_length(x: &[u32]) -> usize
-    requires { ⌜ (0 < length (now x)) × (length (now x) < 2 ^ 32) ⌝ }
-    ensures { λ r. ⌜ r ≡ limbCount (value (now (x .entry))) ⌝ }
+// The limb that continues the top bit of a limb.
+fn continuing(n: u32) -> u32
+    ensures { λ r. ⌜ r ≡ continued n ⌝ }
 {
-    measure(Operation::Logical(Logic::And), x, x, x, x.len())
+    if n < 0x8000_0000 { 0 } else { 0xFFFF_FFFF }
 }
 
-// The limbs of a natural number, with one for the sign, made those of the number with its sign. Answers the length of its shortest form.
+// How many limbs the integer has in its shortest form: a top limb that only continues the one below it can go.
+fn shortest_length(x: &[u32]) -> usize
+    requires { ⌜ 0 < length (now x) ⌝ }
+    ensures { λ r. ⌜ r ≡ limbCount (value (now (x .entry))) ⌝ }
+{
+    let mut n = x.len();
+    while 1 < n {
+        let top = x[n - 1];
+        if top != continuing(x[n - 2]) {
+            return n;
+        }
+        n -= 1;
+    }
+    n
+}
+
+// The limbs of a natural number made those of the number with its sign. Answers the length of its shortest form.
 fn set_sign(negative: bool, x: &mut [u32]) -> usize
-    requires { ⌜ (0 < length (now x)) × (length (now x) < 2 ^ 32) ⌝ }
+    requires { ⌜ (0 < length (now x)) × (isNegative (value (now x)) ≡ false) ⌝ }
+    ensures { λ r. ⌜ r ≡ limbCount (withSign negative (natAbs (value (now (x .entry))))) ⌝ }
+    ensures { λ r. ⌜ take r (now (x .exit)) ≡ shortest (withSign negative (natAbs (value (now (x .entry))))) ⌝ }
+    ensures { λ r. ⌜ r ≤ length (now (x .exit)) ⌝ }
 {
     if negative {
         negate(x);
     }
     shortest_length(x)
+}
+
+// The same of the number whose limbs are the first n.
+fn sign_first(negative: bool, n: usize, out: &mut [u32]) -> LimbReading
+    requires { ⌜ (0 < n) × (n ≤ length (now out)) ⌝ }
+    requires { ⌜ isNegative (value (take n (now out))) ≡ false ⌝ }
+    ensures { λ r. ⌜ Lays (withSign negative (natAbs (value (take n (now (out .entry)))))) true r (now (out .exit)) ⌝ }
+{
+    LimbReading::Limbs(set_sign(negative, &mut out[..n]) as u64)
+}
+
+// Digits with a sign, in hexadecimal: there is no limit but that of the buffer.
+fn read_hexadecimal(negative: bool, digits: &[u8], out: &mut [u32]) -> LimbReading
+    requires { ⌜ areDigits 16 (now digits) ≡ true ⌝ }
+    ensures { λ r. ⌜ Lays (withSign negative (numeral 16 (now (digits .entry)))) (leb ((length (now (digits .entry)) + 7) / 8 + 1) (length (now (out .entry)))) r (now (out .exit)) ⌝ }
+{
+    if out.len() <= (digits.len() + 7) / 8 {
+        return LimbReading::TooLarge;
+    }
+    let n = put_digits(digits, out);
+    sign_first(negative, n, out)
+}
+
+// In decimal, below 2^64.
+fn read_decimal(negative: bool, digits: &[u8], out: &mut [u32]) -> LimbReading
+    requires { ⌜ areDigits 10 (now digits) ≡ true ⌝ }
+    ensures { λ r. ⌜ Lays (withSign negative (numeral 10 (now (digits .entry)))) (ltb (numeral 10 (now (digits .entry))) (2 ^ 64) && leb 3 (length (now (out .entry)))) r (now (out .exit)) ⌝ }
+{
+    if out.len() < 3 {
+        return LimbReading::TooLarge;
+    }
+    match sum_digits(10, digits) {
+        Natural::Value(n) => {
+            put_word(n, out);
+            sign_first(negative, 3, out)
+        }
+        Natural::Beyond => LimbReading::TooLarge,
+    }
 }
 
 // Puts the shortest limbs of the integer that a text is at the start of out. Limbs after them are work space.
@@ -92,20 +149,8 @@ pub fn read_limbs(text: &[u8], out: &mut [u32]) -> LimbReading
         return LimbReading::Malformed;
     }
     if parts.hexadecimal {
-        if out.len() <= (text.len() - start + 7) / 8 {
-            return LimbReading::TooLarge;
-        }
-        let n = put_digits(&text[start..], out);
-        return LimbReading::Limbs(set_sign(parts.negative, &mut out[..n]) as u64);
-    }
-    if out.len() < 3 {
-        return LimbReading::TooLarge;
-    }
-    match sum_digits(10, &text[start..]) {
-        Natural::Value(n) => {
-            put_word(n, out);
-            LimbReading::Limbs(set_sign(parts.negative, &mut out[..3]) as u64)
-        }
-        Natural::Beyond => LimbReading::TooLarge,
+        read_hexadecimal(parts.negative, &text[start..], out)
+    } else {
+        read_decimal(parts.negative, &text[start..], out)
     }
 }
