@@ -1,2 +1,4 @@
 pub mod Cases
 pub mod NegateLaws
+pub mod SpellNatural
+pub mod SpellDigits
