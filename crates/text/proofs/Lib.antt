@@ -1,4 +1,9 @@
 pub mod Cases
+pub mod NumeralLaws
+pub mod NumeralLimbs
+pub mod ReadingParts
+pub mod ReadingLaws
+pub mod ReadingLimbs
 pub mod NegateLaws
 pub mod SpellNatural
 pub mod SpellDigits

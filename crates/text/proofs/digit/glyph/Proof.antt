@@ -1,4 +1,5 @@
--- `text::digit::glyph` meets its contract, in both cases. Assumes nothing.
+-- `text::digit::glyph` meets its contract. Assumes nothing.
+use mathlib.Core.Path.{refl}
 use borrow.Author.Tests.{lt-ltb, le-ltb}
 use Rattle.text.specs.Numerals.{glyph}
 use borrow.Author.Needs.{needs}
@@ -19,11 +20,11 @@ add-result-2 c = search needs
 
 returns : tie.Need-returns
 unfolding glyph
-returns c = rw (lt-ltb _ 10 (c .if1 .taken))
+returns c = rw (lt-ltb _ 10 (c .if1 .taken)) refl
 
 returns-2 : tie.Need-returns-2
 unfolding glyph
-returns-2 c = rw (le-ltb _ 10 (c .if1 .left))
+returns-2 c = rw (le-ltb _ 10 (c .if1 .left)) refl
 
 pub glyph-spec : {M : Type 1} → statement M
 glyph-spec =

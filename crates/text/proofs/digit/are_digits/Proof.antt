@@ -1,0 +1,61 @@
+-- `text::digit::are_digits` meets its contract. The invariant: the bytes from i on are digits where all are. Assumes nothing.
+use Prim.Native.Nat.{zero-le, _-_, _≤_}
+use native.Mathlib.Omega.{arith}
+use mathlib.Core.Path.{_≡_, refl, sym, _∙_}
+use lib.ListN.{length, drop}
+use borrow.Author.Needs.{needs}
+use Rattle.text.specs.Numerals.{areDigits}
+use Rattle.text.proofs.NumeralLaws.{areDigits-stop, areDigits-next, areDigits-end}
+use Rattle.text.proofs.digit.are_digits.Statement.{statement}
+use Rattle.text.proofs.digit.are_digits.Tie as tie
+
+abbrev Inv-loop : tie.InvT-loop
+Inv-loop base text i₀ i = (i ≤ length text) × (areDigits base (drop i text) ≡ areDigits base text)
+
+abbrev μ-loop : tie.MeasureT-loop
+μ-loop base text i₀ i = length text - i
+
+loop-holds : tie.Need-loop-holds Inv-loop μ-loop
+loop-holds c = (zero-le, refl)
+
+shared-slice-read-digit : tie.Need-shared-slice-read-digit Inv-loop μ-loop
+shared-slice-read-digit c = omega arith
+
+digit-requires : tie.Need-digit-requires Inv-loop μ-loop
+digit-requires c κs = search needs
+
+returns : tie.Need-returns Inv-loop μ-loop
+returns c =
+    let l = c .before .before .before .before .loop in
+    let e = c .before .digit .ensures in
+    sym (sym (l .inv .1) ∙ areDigits-stop _ _ (l .i) (omega arith) (omega (arith, e)))
+
+add-i : tie.Need-add-i Inv-loop μ-loop
+add-i c = omega arith
+
+loop-less : tie.Need-loop-less Inv-loop μ-loop
+loop-less c = omega arith
+
+loop-again : tie.Need-loop-again Inv-loop μ-loop
+loop-again c =
+    let l = c .before .before .before .before .loop in
+    let e = c .before .digit .ensures in
+    (omega arith, sym (areDigits-next _ _ (l .i) (omega arith) (omega (arith, e))) ∙ l .inv .1)
+
+returns-2 : tie.Need-returns-2 Inv-loop μ-loop
+returns-2 c = sym (sym (c .before .loop .inv .1) ∙ areDigits-end _ _ (c .before .loop .i) (c .loop-test .left))
+
+pub are-digits-spec : {M : Type 1} → statement M
+are-digits-spec =
+    tie.close
+    (tie.spec
+    Inv-loop
+    μ-loop
+    loop-holds
+    shared-slice-read-digit
+    digit-requires
+    returns
+    add-i
+    loop-less
+    loop-again
+    returns-2)
