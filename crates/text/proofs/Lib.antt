@@ -8,3 +8,4 @@ pub mod NegateLaws
 pub mod SpellNatural
 pub mod SpellDigits
 pub mod SpellBuffer
+pub mod SpellRoundTrip
