@@ -1,5 +1,5 @@
--- What is spelled is read back as the same integer: `isInteger-spelled` and `integer-spelled` for texts, `read-back` for what spelling puts into a
--- buffer. Assumes nothing.
+-- What is spelled is read back as the same integer: `isInteger-spelled` and `integer-spelled` of the text of every integer, `read-back` of what
+-- spelling puts into a buffer, and what the two calls that read answer for such a text. Assumes nothing.
 use Prim.Native.Nat.{ℕ, zero, suc, _+_, _*_, _-_, _/_, _%_, _^_, _≤_, _<_}
 use native.Mathlib.Nat.{zero-mul, one-mul, pow-zero, pow-suc, mod-lt, div-add-mod', div-lt-iff-lt-mul}
 use native.Mathlib.Omega.{arith}
@@ -10,12 +10,15 @@ use lib.Dec.{ltb, lit<}
 use lib.IntN.{ℤ, pos, negsuc, natAbs}
 use lib.ListN.{length, take, drop}
 use lib.Seq.{take-append-seam}
-use borrow.Author.Tests.{lt-ltb, ltb-true, ltb-false}
-use Rattle.bits.specs.Testbit.{isNegative}
+use borrow.Author.Tests.{lt-ltb, le-leb, ltb-true, ltb-false}
+use Rattle.bits.specs.Testbit.{isNegative, fits}
 use Rattle.bits.specs.Sign.{withSign}
 use Rattle.bits.proofs.LengthLaws.{mag-lt}
-use Rattle.limbwords.specs.Value.{value}
+use Rattle.limbwords.specs.Value.{value, limbCount}
 use Rattle.text.specs.Numerals.{digit, areDigits, numeralFrom, numeral, byteAt, isMinus, afterSign, isPrefix, isHex, base, digitsFrom, isInteger, integer, glyph, digits, hexLength, spelled}
+use Rattle.text.specs.declared.Reading.{Reading}
+use Rattle.text.specs.declared.LimbReading.{LimbReading}
+use Rattle.text.specs.Readings.{reading, enough, limbReading}
 use Rattle.text.specs.Spellings.{hasRoom, written, Spells}
 use Rattle.text.proofs.NumeralLaws.{digit-decimal, digit-lower, areDigits-append, numeral-append}
 use Rattle.text.proofs.SpellNatural.{pow-hex}
@@ -76,6 +79,16 @@ unfolding byteAt isMinus afterSign isPrefix isHex base digitsFrom integer
 integer-text true ds = refl
 integer-text false ds = refl
 
+isHex-text : (negative : Bool) (ds : List ℕ) → isHex (text negative ds) ≡ true
+unfolding byteAt isMinus afterSign isPrefix isHex
+isHex-text true ds = refl
+isHex-text false ds = refl
+
+enough-text : (negative : Bool) (ds : List ℕ) → enough (text negative ds) ≡ (length ds + 7) / 8 + 1
+unfolding byteAt isMinus afterSign isPrefix isHex digitsFrom enough
+enough-text true ds = omega arith
+enough-text false ds = omega arith
+
 -- ---- the round trip
 
 sign-absolute : (z : ℤ) → withSign (isNegative z) (natAbs z) ≡ z
@@ -109,3 +122,25 @@ read-back xs out r out′ s h = (ap isInteger put ∙ isInteger-spelled (value x
     put : take r out′ ≡ spelled (value xs)
     put =
         ap₂ take (s .count) (s .buffer) ∙ take-append-seam (written xs out) (drop r out) ∙ text-is
+
+-- ---- what the calls that read answer for it
+
+pub reading-spelled : (z : ℤ) → fits 64 z ≡ true → reading (spelled z) ≡ Reading.Number z
+unfolding reading
+reading-spelled z h = rw (isInteger-spelled z, integer-spelled z, h)
+
+isHex-spelled : (z : ℤ) → isHex (spelled z) ≡ true
+unfolding spelled
+isHex-spelled z = isHex-text (isNegative z) (digits 16 (hexLength (natAbs z)) (natAbs z))
+
+enough-spelled : (z : ℤ) → enough (spelled z) ≡ (hexLength (natAbs z) + 7) / 8 + 1
+unfolding spelled
+enough-spelled z =
+    let k = hexLength (natAbs z) in
+    enough-text (isNegative z) (digits 16 k (natAbs z)) ∙ ap (λ (n : ℕ). (n + 7) / 8 + 1) (length-digits 16 k (natAbs z))
+
+pub limbReading-spelled : (z : ℤ) (k : ℕ) → (hexLength (natAbs z) + 7) / 8 + 1 ≤ k → limbReading (spelled z) k ≡ LimbReading.Limbs (limbCount z)
+unfolding limbReading
+limbReading-spelled z k h =
+    let room = le-leb (enough (spelled z)) k (omega (arith, enough-spelled z)) in
+    rw (isInteger-spelled z, integer-spelled z, isHex-spelled z, room)
