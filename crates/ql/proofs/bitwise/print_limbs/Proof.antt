@@ -1,0 +1,72 @@
+use borrow.Author.Needs.{needs}
+use Rattle.ql.proofs.TextCounts.{bytes-counted}
+use Rattle.ql.proofs.bitwise.print_limbs.Statement.{statement}
+use Rattle.ql.proofs.bitwise.print_limbs.Tie as tie
+use Rattle.ql.proofs.bitwise.print_limbs.Reads as reads
+use Rattle.ql.proofs.bitwise.print_limbs.Lts as lts
+use Rattle.limbs.proofs.to_word.Reads as to-word-reads
+use Rattle.output.proofs.print.Reads as print-reads
+use Rattle.output.proofs.print_decimal.Reads as print-decimal-reads
+use Rattle.ql.proofs.bitwise.text_space.Reads as text-space-reads
+use Rattle.text.proofs.spell_limbs.Reads as spell-limbs-reads
+
+to-word-requires : tie.Need-to-word-requires
+to-word-requires c κs = search needs
+
+print-decimal-requires : tie.Need-print-decimal-requires
+print-decimal-requires c κs = search needs
+
+slice-aggregate-print : tie.Need-slice-aggregate-print
+slice-aggregate-print c = search needs
+
+print-requires : tie.Need-print-requires
+print-requires c κs = search needs
+
+text-space-requires : tie.Need-text-space-requires
+text-space-requires c κs = search needs
+
+slice-aggregate-spell-limbs : tie.Need-slice-aggregate-spell-limbs
+slice-aggregate-spell-limbs c = search needs
+
+spell-limbs-requires : tie.Need-spell-limbs-requires
+spell-limbs-requires c κs = search needs
+
+array-share-prefix-space : tie.Need-array-share-prefix-space
+array-share-prefix-space c = bytes-counted (c .before .before .before .spell-limbs .ensures) .0
+
+slice-aggregate-print-2 : tie.Need-slice-aggregate-print-2
+slice-aggregate-print-2 c = bytes-counted (c .before .before .before .before .spell-limbs .ensures) .1
+
+print-requires-2 : tie.Need-print-requires-2
+print-requires-2 c κs = search needs
+
+slice-aggregate-print-3 : tie.Need-slice-aggregate-print-3
+slice-aggregate-print-3 c = search needs
+
+print-requires-3 : tie.Need-print-requires-3
+print-requires-3 c κs = search needs
+
+same-length : tie.Need-same-length
+same-length c = search needs
+
+returns : tie.Need-returns
+returns c = search needs
+
+pub print-limbs-spec : {M : Type 1} → statement M
+print-limbs-spec =
+    tie.close
+    (tie.spec
+    to-word-requires
+    print-decimal-requires
+    slice-aggregate-print
+    print-requires
+    text-space-requires
+    slice-aggregate-spell-limbs
+    spell-limbs-requires
+    array-share-prefix-space
+    slice-aggregate-print-2
+    print-requires-2
+    slice-aggregate-print-3
+    print-requires-3
+    same-length
+    returns)
