@@ -6,3 +6,7 @@ pub mod ReadingLaws
 pub mod ReadingLimbs
 pub mod ReadingBuffer
 pub mod NegateLaws
+pub mod SpellNatural
+pub mod SpellDigits
+pub mod SpellBuffer
+pub mod SpellRoundTrip

@@ -20,7 +20,7 @@ fn nibble(x: &[u32], i: usize) -> u64
 // How many digits it has, at least one.
 fn hex_length(x: &[u32]) -> usize
     requires { ⌜ (0 < length (now x)) × (8 * length (now x) < 2 ^ 64) ⌝ }
-    ensures { λ r. ⌜ r ≡ hexLength (natural (now (x .entry))) ⌝ }
+    ensures { λ r. ⌜ (r ≡ hexLength (natural (now (x .entry)))) × (r ≤ 8 * length (now (x .entry))) ⌝ }
 {
     let mut k = 8 * x.len();
     while 1 < k {
@@ -47,7 +47,7 @@ fn put_nibbles(x: &[u32], k: usize, out: &mut [u8])
 // Puts 0x and its digits at the start of out, and answers how many bytes they are.
 fn put_natural(x: &[u32], out: &mut [u8]) -> usize
     requires { ⌜ (0 < length (now x)) × (8 * length (now x) + 2 ≤ length (now out)) ⌝ }
-    ensures { λ r. ⌜ r ≡ hexLength (natural (now (x .entry))) + 2 ⌝ }
+    ensures { λ r. ⌜ (r ≡ hexLength (natural (now (x .entry))) + 2) × (r ≤ length (now (out .entry))) ⌝ }
     ensures { λ r. ⌜ now (out .exit) ≡ (48 ∷ 120 ∷ digits 16 (hexLength (natural (now (x .entry)))) (natural (now (x .entry)))) ++ drop r (now (out .entry)) ⌝ }
 {
     let k = hex_length(x);

@@ -1,0 +1,59 @@
+-- `text::spell::hex_length` meets its contract: digits that are 0 go, from the first on. Assumes nothing.
+use Prim.Native.Nat.{_*_, _≤_}
+use native.Mathlib.Omega.{arith}
+use mathlib.Core.Path.{sym, _∙_}
+use lib.ListN.{length}
+use Rattle.text.specs.Spellings.{natural}
+use Rattle.text.proofs.SpellNatural.{natural-lt}
+use Rattle.text.proofs.SpellDigits.{Below, below-less, below-settled, below-one}
+use Rattle.text.proofs.spell.hex_length.Statement.{statement}
+use Rattle.text.proofs.spell.hex_length.Tie as tie
+
+abbrev Inv-loop : tie.InvT-loop
+Inv-loop x k₀ k = (k ≤ 8 * length x) × Below (natural x) k
+
+abbrev μ-loop : tie.MeasureT-loop
+μ-loop x k₀ k = k
+
+mul-k : tie.Need-mul-k Inv-loop μ-loop
+mul-k c = omega arith
+
+loop-holds : tie.Need-loop-holds Inv-loop μ-loop
+loop-holds c = (omega arith, record { some = omega arith; below = natural-lt _ (λ j. c .shared-slice-known .given j .fits) })
+
+sub-nibble : tie.Need-sub-nibble Inv-loop μ-loop
+sub-nibble c = omega arith
+
+nibble-requires : tie.Need-nibble-requires Inv-loop μ-loop
+nibble-requires c κs = omega arith
+
+returns : tie.Need-returns Inv-loop μ-loop
+returns c = (below-settled (c .before .before .before .loop .inv .1) (λ e. c .if1 .taken (c .before .nibble .ensures ∙ e)), omega arith)
+
+sub-k : tie.Need-sub-k Inv-loop μ-loop
+sub-k c = omega arith
+
+loop-less : tie.Need-loop-less Inv-loop μ-loop
+loop-less c = omega arith
+
+loop-again : tie.Need-loop-again Inv-loop μ-loop
+loop-again c = (omega arith, below-less (c .before .before .before .loop .inv .1) (omega arith) (sym (c .before .nibble .ensures) ∙ c .if1 .left))
+
+returns-2 : tie.Need-returns-2 Inv-loop μ-loop
+returns-2 c = (below-one (c .before .loop .inv .1) (omega arith), omega arith)
+
+pub hex-length-spec : {M : Type 1} → statement M
+hex-length-spec =
+    tie.close
+    (tie.spec
+    Inv-loop
+    μ-loop
+    mul-k
+    loop-holds
+    sub-nibble
+    nibble-requires
+    returns
+    sub-k
+    loop-less
+    loop-again
+    returns-2)

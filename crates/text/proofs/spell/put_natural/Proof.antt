@@ -1,0 +1,67 @@
+-- `text::spell::put_natural` meets its contract: two bytes, and the digits in the part after them. Assumes nothing.
+use Prim.Native.Nat.{ℕ, _+_}
+use native.Mathlib.Omega.{arith}
+use mathlib.Core.Path.{ap, _∙_}
+use mathlib.Core.List.{_∷_, _++_}
+use lib.ListN.{drop, length-set}
+use Rattle.text.specs.Numerals.{digits}
+use Rattle.text.specs.Spellings.{natural}
+use Rattle.text.proofs.SpellBuffer.{two-length, two-back}
+use borrow.Author.Needs.{needs}
+use Rattle.text.proofs.spell.put_natural.Statement.{statement}
+use Rattle.text.proofs.spell.put_natural.Tie as tie
+
+hex-length-requires : tie.Need-hex-length-requires
+hex-length-requires c κs = search needs
+
+slice-write-out : tie.Need-slice-write-out
+slice-write-out c = search needs
+
+slice-write-out-2 : tie.Need-slice-write-out-2
+slice-write-out-2 c = simp length-set (omega arith)
+
+sub-put-nibbles : tie.Need-sub-put-nibbles
+sub-put-nibbles c = simp length-set (omega arith)
+
+part-put-nibbles-start : tie.Need-part-put-nibbles-start
+part-put-nibbles-start c = simp length-set (omega arith)
+
+part-put-nibbles-end : tie.Need-part-put-nibbles-end
+part-put-nibbles-end c = search needs
+
+put-nibbles-requires : tie.Need-put-nibbles-requires
+put-nibbles-requires c κs =
+    let out = c .before .before .before .before .args .out .now in
+    (omega arith, omega (arith, two-length out 48 120))
+
+add-result : tie.Need-add-result
+add-result c = omega arith
+
+same-length : tie.Need-same-length
+same-length c = c .before .out .given .1 ∙ simp length-set
+
+returns : tie.Need-returns
+returns c =
+    let a = c .before .before .before .before .before .before .before in
+    let out = a .args .out .now in
+    let k = c .before .before .before .before .hex-length in
+    let n = natural (a .args .x .now) in (
+      (ap (λ (n : ℕ). n + 2) (k .ensures .0), omega arith),
+      two-back out 48 120 (c .before .before .put-nibbles .last .1 .1 .0) (digits 16 (k .result) n) (k .result) (omega arith) (c .before .before .put-nibbles .ensures)
+          ∙ ap (λ (m : ℕ). 48 ∷ 120 ∷ (digits 16 m n ++ drop (k .result + 2) out)) (k .ensures .0),
+    )
+
+pub put-natural-spec : {M : Type 1} → statement M
+put-natural-spec =
+    tie.close
+    (tie.spec
+    hex-length-requires
+    slice-write-out
+    slice-write-out-2
+    sub-put-nibbles
+    part-put-nibbles-start
+    part-put-nibbles-end
+    put-nibbles-requires
+    add-result
+    same-length
+    returns)

@@ -1,0 +1,101 @@
+-- `text::spell::spell_limbs` meets its contract: no room, or the digits after a sign or none. Assumes nothing.
+use native.Mathlib.Omega.{arith}
+use mathlib.Core.Path.{_∙_}
+use mathlib.Core.Logic.{⊎-elim}
+use lib.ListN.{length, length-set}
+use borrow.Author.Tests.{ltb-true}
+use Rattle.text.proofs.SpellBuffer.{one-length, spells-none, spells-nonnegative, spells-negative}
+use borrow.Author.Needs.{needs}
+use Rattle.text.proofs.spell.spell_limbs.Statement.{statement}
+use Rattle.text.proofs.spell.spell_limbs.Tie as tie
+
+returns : tie.Need-returns
+returns c =
+    spells-none _ _
+    (λ h l. ⊎-elim (λ w. omega (arith, w .taken)) (λ w. let short = ltb-true (length (c .before .before .before .args .out .now)) 3 (w .1 .taken) in omega arith) (c .if1 .came))
+
+sub-if3 : tie.Need-sub-if3
+sub-if3 c = search needs
+
+returns-2 : tie.Need-returns-2
+returns-2 c = spells-none _ _ (λ h l. omega arith)
+
+sub-if4 : tie.Need-sub-if4
+sub-if4 c = search needs
+
+mul-if4 : tie.Need-mul-if4
+mul-if4 c = search needs
+
+slice-read-if4 : tie.Need-slice-read-if4
+slice-read-if4 c = search needs
+
+put-natural-requires : tie.Need-put-natural-requires
+put-natural-requires c κs = search needs
+
+same-length : tie.Need-same-length
+same-length c = search needs
+
+same-length-2 : tie.Need-same-length-2
+same-length-2 c = search needs
+
+returns-3 : tie.Need-returns-3
+returns-3 c =
+    spells-nonnegative _ _ (λ i. c .before .before .before .before .before .before .before .before .before .before .before .slice-known .given i .fits) (omega arith) (omega arith) _ _
+    (c .before .before .before .before .before .if4 .taken) (c .before .before .put-natural .ensures .0 .0) (c .before .before .put-natural .ensures .1)
+
+negate-requires : tie.Need-negate-requires
+negate-requires c κs = search needs
+
+slice-write-out : tie.Need-slice-write-out
+slice-write-out c = search needs
+
+sub-put-natural : tie.Need-sub-put-natural
+sub-put-natural c = simp length-set (omega arith)
+
+part-put-natural-start : tie.Need-part-put-natural-start
+part-put-natural-start c = simp length-set (omega arith)
+
+part-put-natural-end : tie.Need-part-put-natural-end
+part-put-natural-end c = search needs
+
+put-natural-requires-2 : tie.Need-put-natural-requires-2
+put-natural-requires-2 c κs = (omega arith, omega (arith, one-length (c .before .before .before .before .before .before .before .before .before .before .before .before .before .args .out .now) 45))
+
+add-result : tie.Need-add-result
+add-result c = omega (arith, one-length (c .before .before .before .before .before .before .before .before .before .before .before .before .before .before .before .before .args .out .now) 45)
+
+same-length-3 : tie.Need-same-length-3
+same-length-3 c = search needs
+
+same-length-4 : tie.Need-same-length-4
+same-length-4 c = c .before .out2 .given .1 ∙ simp length-set
+
+returns-4 : tie.Need-returns-4
+returns-4 c =
+    spells-negative _ _ (λ i. c .before .before .before .before .before .before .before .before .before .before .before .before .before .before .before .slice-known .given i .fits) (omega arith) (omega arith) _ _ _
+    (c .before .before .before .before .before .before .before .before .before .if4 .left) (c .before .before .before .before .before .before .before .negate .ensures) (c .before .before .put-natural2 .ensures .0 .0) (c .before .before .put-natural2 .ensures .1)
+
+pub spell-limbs-spec : {M : Type 1} → statement M
+spell-limbs-spec =
+    tie.close
+    (tie.spec
+    returns
+    sub-if3
+    returns-2
+    sub-if4
+    mul-if4
+    slice-read-if4
+    put-natural-requires
+    same-length
+    same-length-2
+    returns-3
+    negate-requires
+    slice-write-out
+    sub-put-natural
+    part-put-natural-start
+    part-put-natural-end
+    put-natural-requires-2
+    add-result
+    same-length-3
+    same-length-4
+    returns-4)
