@@ -1,6 +1,5 @@
--- A number below 2^64, summed digit by digit, and what a text is as a word. Assumes nothing.
-use Prim.Native.Nat.{ℕ, _+_, _*_, _-_, _/_, _^_, _≤_, _<_}
-use native.Mathlib.Nat.{le-div-iff-mul-le, div-lt-iff-lt-mul}
+-- A number as a word, where it is below 2^64, and what a text is as a signed word. Assumes nothing.
+use Prim.Native.Nat.{ℕ, _^_, _≤_, _<_}
 use native.Mathlib.Omega.{arith}
 use mathlib.Core.Path.{_≡_, refl, _∙_}
 use mathlib.Core.Bool.{Bool, true, false, cond}
@@ -16,14 +15,7 @@ use Rattle.text.specs.declared.Natural.{Natural}
 use Rattle.text.specs.Numerals.{isInteger, integer}
 use Rattle.text.specs.Readings.{asWord, reading}
 
--- ---- one digit more, where the limit allows it
-
-module _ (limit b d n : ℕ) (p : 0 < b) (h : d ≤ limit) where
-  pub digit-fits : n ≤ (limit - d) / b → n * b + d ≤ limit
-  digit-fits k = omega (arith, le-div-iff-mul-le p .0 k)
-
-  pub digit-beyond : (limit - d) / b < n → limit < n * b + d
-  digit-beyond k = omega (arith, div-lt-iff-lt-mul p .0 k)
+-- ---- a number as a word without a sign
 
 pub asWord-value : (n : ℕ) → n < 2 ^ 64 → asWord n ≡ Natural.Value n
 unfolding asWord

@@ -1,5 +1,6 @@
 -- `text::word::sum_digits` meets its contract. The invariant: n is the number of the first i digits. Assumes nothing.
 use Prim.Native.Nat.{ℕ, zero-le, _+_, _*_, _-_, _^_, _≤_, _<_}
+use native.Mathlib.Nat.{le-div-iff-mul-le, div-lt-iff-lt-mul}
 use native.Mathlib.Omega.{arith}
 use mathlib.Core.Path.{_≡_, refl, sym, ap, ap₂, subst, _∙_}
 use lib.Dec.{lit<}
@@ -9,7 +10,7 @@ use borrow.Author.Needs.{needs}
 use Rattle.text.specs.declared.Natural.{Natural}
 use Rattle.text.specs.Numerals.{digit, numeralFrom, numeral}
 use Rattle.text.proofs.NumeralLaws.{digit-at, numeral-more, numeral-first}
-use Rattle.text.proofs.ReadingLaws.{digit-fits, digit-beyond, asWord-value, asWord-beyond}
+use Rattle.text.proofs.ReadingLaws.{asWord-value, asWord-beyond}
 use Rattle.text.proofs.word.sum_digits.Statement.{statement}
 use Rattle.text.proofs.word.sum_digits.Tie as tie
 
@@ -49,16 +50,18 @@ so-far c =
     let l = c .before .before .before .loop in
     ap₂ (λ (n d : ℕ). n * a .base + d) (l .inv .1 .0) (c .digit .ensures) ∙ sym (numeral-more (a .base) (a .text .now) (l .i) (omega arith))
 
--- and where the limit allows it
+-- and where the limit allows it, a word
 fitting : (c : tie.Else1 Inv-loop μ-loop) → let a = c .before .before .before .before .before .before .args in
-    c .before .before .before .before .loop .n * a .base + c .before .digit .result ≤ 18446744073709551615
-fitting c = digit-fits _ _ _ _ (omega arith) (omega (arith, read (c .before))) (c .if1 .left)
+    c .before .before .before .before .loop .n * a .base + c .before .digit .result < 2 ^ 64
+fitting c =
+    let b = c .before .before .before .before .before .before .args .base in
+    omega (arith, le-div-iff-mul-le {k = b} (omega arith) .0 (c .if1 .left), read (c .before))
 
 returns : tie.Need-returns Inv-loop μ-loop
 returns c =
     let a = c .before .before .before .before .before .before in
     let l = c .before .before .before .before .loop in
-    let d = digit-beyond 18446744073709551615 (a .args .base) (c .before .digit .result) (l .n) (omega arith) (omega (arith, read (c .before))) (c .if1 .taken) in
+    let d = div-lt-iff-lt-mul {k = a .args .base} (omega arith) .0 (c .if1 .taken) in
     sym (asWord-beyond _ (omega (arith, so-far (c .before), numeral-first (a .args .base) (l .i + 1) (a .args .text .now) (omega arith))))
 
 mul-n : tie.Need-mul-n Inv-loop μ-loop
