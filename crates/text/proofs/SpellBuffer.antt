@@ -1,4 +1,4 @@
--- A text put at the start of a buffer: what stands before a part that was lent, and the answer of spelling. Assumes nothing.
+-- A text put at the start of a buffer: bytes in front and a text in the part after them, and the answer of spelling. Assumes nothing.
 use Prim.Native.Nat.{ℕ, _+_, _*_, _-_, _^_, _≤_, _<_}
 use native.Mathlib.Omega.{arith}
 use mathlib.Core.Path.{_≡_, refl, sym, ap, ap₂, _∙_}
@@ -6,8 +6,8 @@ use mathlib.Core.Bool.{Bool, true, false, cond, not, _&&_}
 use mathlib.Core.List.{List, [], _∷_, _++_, append-nil, append-assoc}
 use lib.Dec.{leb, ltb}
 use lib.IntN.{negℤ, natAbs}
-use lib.ListN.{length, take, drop, set, getD, length-drop, length-append, drop-of-length-le}
-use lib.Seq.{drop-drop, drop-set-lt}
+use lib.ListN.{length, take, drop, getD, length-drop, length-append, drop-of-length-le}
+use lib.Seq.{take-append-seam, drop-append-seam, drop-drop, sets, sets-eq}
 use borrow.Author.Tests.{lt-ltb, le-ltb, le-leb, ltb-true, leb-true}
 use borrow.Rule.Slice.PartAt.{part-to-end}
 use borrow.Rule.Slice.PartMut.{putMid}
@@ -19,62 +19,42 @@ use Rattle.text.specs.Spellings.{natural, hasRoom, written, Spells}
 use Rattle.text.proofs.SpellNatural.{natural-nonnegative, natural-negative}
 use Rattle.text.proofs.SpellDigits.{length-digits}
 
--- ---- a part of the buffer, from `at` on, lent and come back
+-- ---- bytes put in front, and the part after them lent and come back
 
-module _ (at : ℕ) (out new : List ℕ) (same : drop at new ≡ drop at out) where
-  pub part-length : length (take (length new - at) (drop at new)) ≡ length out - at
-  part-length = ap length (part-to-end new at ∙ same) ∙ length-drop at out
+abbrev pub headed : List ℕ → List ℕ → List ℕ
+headed out front = sets out 0 front
+
+module _ (out front : List ℕ) (h : length front ≤ length out) where
+  headed-is : headed out front ≡ front ++ drop (length front) out
+  headed-is =
+      let e : 0 + length front ≡ length front = omega arith in
+      sets-eq front out 0 (omega arith) ∙ ap (λ (i : ℕ). front ++ drop i out) e
+
+  part-is : take (length (headed out front) - length front) (drop (length front) (headed out front)) ≡ drop (length front) out
+  part-is =
+      part-to-end (headed out front) (length front)
+      ∙ ap (drop (length front)) headed-is
+      ∙ drop-append-seam front (drop (length front) out)
+
+  pub part-length : length (take (length (headed out front) - length front) (drop (length front) (headed out front))) ≡ length out - length front
+  part-length = ap length part-is ∙ length-drop (length front) out
 
   -- it came back with a text at its start
-  pub part-back : (part text : List ℕ) (k : ℕ) → part ≡ text ++ drop k (take (length new - at) (drop at new))
-      → putMid at (length new - at) new part ≡ take at new ++ (text ++ drop (k + at) out)
+  pub part-back : (part text : List ℕ) (k : ℕ)
+      → part ≡ text ++ drop k (take (length (headed out front) - length front) (drop (length front) (headed out front)))
+      → putMid (length front) (length (headed out front) - length front) (headed out front) part ≡ front ++ (text ++ drop (k + length front) out)
   part-back part text k e =
-      let swap : at + k ≡ k + at = omega arith in
-      ap (λ (l : List ℕ). take at new ++ (part ++ l)) (drop-of-length-le (drop at new) {i = length new - at} (omega (arith, length-drop at new)))
-      ∙ ap (λ (l : List ℕ). take at new ++ l)
+      let n = length front in
+      let new = headed out front in
+      let swap : n + k ≡ k + n = omega arith in
+      ap₂ (λ (head tail : List ℕ). head ++ (part ++ tail))
+      (ap (take n) headed-is ∙ take-append-seam front (drop n out))
+      (drop-of-length-le (drop n new) {i = length new - n} (omega (arith, length-drop n new)))
+      ∙ ap (λ (l : List ℕ). front ++ l)
       (append-nil part
       ∙ e
-      ∙ ap (λ (l : List ℕ). text ++ drop k l) (part-to-end new at ∙ same)
-      ∙ ap (λ (l : List ℕ). text ++ l) (drop-drop k at out ∙ ap (λ (i : ℕ). drop i out) swap))
-
--- one byte in front of it
-module _ (out : List ℕ) (a : ℕ) where
-  abbrev pub one : List ℕ
-  one = set out 0 a
-
-  after-one : drop 1 one ≡ drop 1 out
-  after-one = drop-set-lt 1 out 0 a (omega arith)
-
-  pub one-length : length (take (length one - 1) (drop 1 one)) ≡ length out - 1
-  one-length = part-length 1 out one after-one
-
-  pub one-back : (part text : List ℕ) (k : ℕ) → 1 ≤ length out → part ≡ text ++ drop k (take (length one - 1) (drop 1 one))
-      → putMid 1 (length one - 1) one part ≡ a ∷ (text ++ drop (k + 1) out)
-  one-back part text k h e = part-back 1 out one after-one part text k e ∙ ap (λ (l : List ℕ). l ++ (text ++ drop (k + 1) out)) (front out a h)
-    where
-      front : (out : List ℕ) (a : ℕ) → 1 ≤ length out → take 1 (set out 0 a) ≡ a ∷ []
-      front [] a h = absurd (omega arith)
-      front (c ∷ cs) a h = refl
-
--- and two
-module _ (out : List ℕ) (a b : ℕ) where
-  abbrev pub two : List ℕ
-  two = set (set out 0 a) 1 b
-
-  after-two : drop 2 two ≡ drop 2 out
-  after-two = drop-set-lt 2 (set out 0 a) 1 b (omega arith) ∙ drop-set-lt 2 out 0 a (omega arith)
-
-  pub two-length : length (take (length two - 2) (drop 2 two)) ≡ length out - 2
-  two-length = part-length 2 out two after-two
-
-  pub two-back : (part text : List ℕ) (k : ℕ) → 2 ≤ length out → part ≡ text ++ drop k (take (length two - 2) (drop 2 two))
-      → putMid 2 (length two - 2) two part ≡ a ∷ b ∷ (text ++ drop (k + 2) out)
-  two-back part text k h e = part-back 2 out two after-two part text k e ∙ ap (λ (l : List ℕ). l ++ (text ++ drop (k + 2) out)) (front out a b h)
-    where
-      front : (out : List ℕ) (a b : ℕ) → 2 ≤ length out → take 2 (set (set out 0 a) 1 b) ≡ a ∷ b ∷ []
-      front [] a b h = absurd (omega arith)
-      front (c ∷ []) a b h = absurd (omega arith)
-      front (c ∷ d ∷ ds) a b h = refl
+      ∙ ap (λ (l : List ℕ). text ++ drop k l) part-is
+      ∙ ap (λ (l : List ℕ). text ++ l) (drop-drop k n out ∙ ap (λ (i : ℕ). drop i out) swap))
 
 -- ---- the answer
 
@@ -138,13 +118,13 @@ module _ (xs out : List ℕ) (b : (i : ℕ) → getD xs i 0 < 2 ^ 32) (h : 0 < l
   pub spells-negative : (ys : List ℕ) (r : ℕ) (part : List ℕ) → 0x80000000 ≤ getD xs (length xs - 1) 0
       → ys ≡ limbsOf (length xs) (negℤ (value xs))
       → r ≡ hexLength (natural ys) + 2
-      → part ≡ hexadecimal (natural ys) ++ drop r (take (length (one out 45) - 1) (drop 1 (one out 45)))
-      → Spells xs out (r + 1) (putMid 1 (length (one out 45) - 1) (one out 45) part)
+      → part ≡ hexadecimal (natural ys) ++ drop r (take (length (headed out (45 ∷ [])) - 1) (drop 1 (headed out (45 ∷ []))))
+      → Spells xs out (r + 1) (putMid 1 (length (headed out (45 ∷ [])) - 1) (headed out (45 ∷ [])) part)
   spells-negative ys r part last negated counted put =
-      spells xs out true (natural ys) (r + 1) (putMid 1 (length (one out 45) - 1) (one out 45) part) h l sign
+      spells xs out true (natural ys) (r + 1) (putMid 1 (length (headed out (45 ∷ [])) - 1) (headed out (45 ∷ [])) part) h l sign
       (ap natural negated ∙ natural-negative xs h sign)
       (omega arith)
-      (one-back out 45 part (hexadecimal (natural ys)) r (omega arith) put)
+      (part-back out (45 ∷ []) (omega arith) part (hexadecimal (natural ys)) r put)
     where
       sign : isNegative (value xs) ≡ true
       sign = sign-last xs b h ∙ ap not (le-ltb (getD xs (length xs - 1) 0) 0x80000000 last)

@@ -2,11 +2,11 @@
 use Prim.Native.Nat.{ℕ, _+_}
 use native.Mathlib.Omega.{arith}
 use mathlib.Core.Path.{ap, _∙_}
-use mathlib.Core.List.{_∷_, _++_}
+use mathlib.Core.List.{[], _∷_, _++_}
 use lib.ListN.{drop, length-set}
 use Rattle.text.specs.Numerals.{digits}
 use Rattle.text.specs.Spellings.{natural}
-use Rattle.text.proofs.SpellBuffer.{two-length, two-back}
+use Rattle.text.proofs.SpellBuffer.{part-length, part-back}
 use borrow.Author.Needs.{needs}
 use Rattle.text.proofs.spell.put_natural.Statement.{statement}
 use Rattle.text.proofs.spell.put_natural.Tie as tie
@@ -32,7 +32,7 @@ part-put-nibbles-end c = search needs
 put-nibbles-requires : tie.Need-put-nibbles-requires
 put-nibbles-requires c κs =
     let out = c .before .before .before .before .args .out .now in
-    (omega arith, omega (arith, two-length out 48 120))
+    (omega arith, omega (arith, part-length out (48 ∷ 120 ∷ []) (omega arith)))
 
 add-result : tie.Need-add-result
 add-result c = omega arith
@@ -47,7 +47,7 @@ returns c =
     let k = c .before .before .before .before .hex-length in
     let n = natural (a .args .x .now) in (
       (ap (λ (n : ℕ). n + 2) (k .ensures .0), omega arith),
-      two-back out 48 120 (c .before .before .put-nibbles .last .1 .1 .0) (digits 16 (k .result) n) (k .result) (omega arith) (c .before .before .put-nibbles .ensures)
+      part-back out (48 ∷ 120 ∷ []) (omega arith) (c .before .before .put-nibbles .last .1 .1 .0) (digits 16 (k .result) n) (k .result) (c .before .before .put-nibbles .ensures)
           ∙ ap (λ (m : ℕ). 48 ∷ 120 ∷ (digits 16 m n ++ drop (k .result + 2) out)) (k .ensures .0),
     )
 

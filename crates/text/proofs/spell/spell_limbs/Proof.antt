@@ -1,10 +1,11 @@
 -- `text::spell::spell_limbs` meets its contract: no room, or the digits after a sign or none. Assumes nothing.
 use native.Mathlib.Omega.{arith}
 use mathlib.Core.Path.{_∙_}
+use mathlib.Core.List.{[], _∷_}
 use mathlib.Core.Logic.{⊎-elim}
 use lib.ListN.{length, length-set}
 use borrow.Author.Tests.{ltb-true}
-use Rattle.text.proofs.SpellBuffer.{one-length, spells-none, spells-nonnegative, spells-negative}
+use Rattle.text.proofs.SpellBuffer.{part-length, spells-none, spells-nonnegative, spells-negative}
 use borrow.Author.Needs.{needs}
 use Rattle.text.proofs.spell.spell_limbs.Statement.{statement}
 use Rattle.text.proofs.spell.spell_limbs.Tie as tie
@@ -40,8 +41,12 @@ same-length-2 c = search needs
 
 returns-3 : tie.Need-returns-3
 returns-3 c =
-    spells-nonnegative _ _ (λ i. c .before .before .before .before .before .before .before .before .before .before .before .slice-known .given i .fits) (omega arith) (omega arith) _ _
-    (c .before .before .before .before .before .if4 .taken) (c .before .before .put-natural .ensures .0 .0) (c .before .before .put-natural .ensures .1)
+    let a = c .before .before .before .before .before .before .before .before .before .before .before in
+    let p = c .before .before .put-natural in
+    spells-nonnegative _ _ (λ i. a .slice-known .given i .fits) (omega arith) (omega arith) _ _
+    (c .before .before .before .before .before .if4 .taken)
+    (p .ensures .0 .0)
+    (p .ensures .1)
 
 negate-requires : tie.Need-negate-requires
 negate-requires c κs = search needs
@@ -59,10 +64,14 @@ part-put-natural-end : tie.Need-part-put-natural-end
 part-put-natural-end c = search needs
 
 put-natural-requires-2 : tie.Need-put-natural-requires-2
-put-natural-requires-2 c κs = (omega arith, omega (arith, one-length (c .before .before .before .before .before .before .before .before .before .before .before .before .before .args .out .now) 45))
+put-natural-requires-2 c κs =
+    let a = c .before .before .before .before .before .before .before .before .before .before .before .before .before in
+    (omega arith, omega (arith, part-length (a .args .out .now) (45 ∷ []) (omega arith)))
 
 add-result : tie.Need-add-result
-add-result c = omega (arith, one-length (c .before .before .before .before .before .before .before .before .before .before .before .before .before .before .before .before .args .out .now) 45)
+add-result c =
+    let a = c .before .before .before .before .before .before .before .before .before .before .before .before .before .before .before .before in
+    omega (arith, part-length (a .args .out .now) (45 ∷ []) (omega arith))
 
 same-length-3 : tie.Need-same-length-3
 same-length-3 c = search needs
@@ -72,8 +81,14 @@ same-length-4 c = c .before .out2 .given .1 ∙ simp length-set
 
 returns-4 : tie.Need-returns-4
 returns-4 c =
-    spells-negative _ _ (λ i. c .before .before .before .before .before .before .before .before .before .before .before .before .before .before .before .slice-known .given i .fits) (omega arith) (omega arith) _ _ _
-    (c .before .before .before .before .before .before .before .before .before .if4 .left) (c .before .before .before .before .before .before .before .negate .ensures) (c .before .before .put-natural2 .ensures .0 .0) (c .before .before .put-natural2 .ensures .1)
+    let n = c .before .before .before .before .before .before .before in
+    let a = n .before .before .before .before .before .before .before .before in
+    let p = c .before .before .put-natural2 in
+    spells-negative _ _ (λ i. a .slice-known .given i .fits) (omega arith) (omega arith) _ _ _
+    (n .before .before .if4 .left)
+    (n .negate .ensures)
+    (p .ensures .0 .0)
+    (p .ensures .1)
 
 pub spell-limbs-spec : {M : Type 1} → statement M
 spell-limbs-spec =
