@@ -1,2 +1,1 @@
-pub mod NetLaws
 pub mod TextCounts

@@ -78,18 +78,17 @@ fn print_domain(code: u64) {
     }
 }
 
-// `fxnot takes 1 argument, and 2 were given`
+// `fxnot takes 1 argument, not 2`
 fn print_count_rule(request: Request) {
     print_name(request.code);
     print(b" takes ");
     print_counts(request.code);
     if most(request.code) == 1 {
-        print(b" argument, and ");
+        print(b" argument, not ");
     } else {
-        print(b" arguments, and ");
+        print(b" arguments, not ");
     }
     print_natural(request.count);
-    print(b" were given");
 }
 
 // The rule that a refused call breaks, whatever the width is.

@@ -6,7 +6,6 @@ mod explain;
 mod fx;
 mod list;
 mod names;
-mod net;
 mod ops;
 mod request;
 mod usage;

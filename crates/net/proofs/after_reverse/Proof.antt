@@ -1,9 +1,9 @@
 use native.Mathlib.Omega.{arith}
-use Rattle.ql.proofs.NetLaws.{reverse-none, reverse-some}
-use Rattle.ql.proofs.net.after_reverse.Statement.{statement}
-use Rattle.ql.proofs.net.after_reverse.Tie as tie
-use Rattle.ql.proofs.net.after_reverse.Reads as reads
-use Rattle.ql.proofs.net.after_reverse.Lts as lts
+use Rattle.net.proofs.NetLaws.{reverse-none, reverse-some}
+use Rattle.net.proofs.after_reverse.Statement.{statement}
+use Rattle.net.proofs.after_reverse.Tie as tie
+use Rattle.net.proofs.after_reverse.Reads as reads
+use Rattle.net.proofs.after_reverse.Lts as lts
 
 returns : tie.Need-returns
 returns c = λ h. reverse-none (c .before .args .size) (c .before .args .net) (omega arith)

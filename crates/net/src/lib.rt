@@ -1,4 +1,4 @@
-// The net count of a list of rotate and reverse calls, call by call.
+// The net count of a list of rotate and reverse calls on one field, call by call: document 01's demand 3 says that the list is one rotation by it.
 ghost use mathlib.Core.Path.{_≡_};
 ghost use Prim.Native.Nat.{_<_};
 ghost use lib.IntN.{pos};

@@ -2,9 +2,9 @@ use borrow.Author.Needs.{needs}
 use native.Mathlib.Omega.{arith}
 use native.Mathlib.Nat.{mod-lt}
 use Prim.Native.Nat.{_≤_, _<_, _%_}
-use Rattle.ql.proofs.NetLaws.{rotate-below, rotate-above}
-use Rattle.ql.proofs.net.after_rotate.Statement.{statement}
-use Rattle.ql.proofs.net.after_rotate.Tie as tie
+use Rattle.net.proofs.NetLaws.{rotate-below, rotate-above}
+use Rattle.net.proofs.after_rotate.Statement.{statement}
+use Rattle.net.proofs.after_rotate.Tie as tie
 
 returns : tie.Need-returns
 returns c = λ h. absurd (omega (arith, h))
