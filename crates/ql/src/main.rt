@@ -17,7 +17,7 @@ use argument::is_word;
 use usage::print_usage;
 
 fn main() {
-    if !is_given(1) {
+    if !is_given(1) || is_word(1, b"help") || is_word(1, b"--help") {
         print_usage(1);
     } else if is_word(1, b"fx") {
         fx::run();
