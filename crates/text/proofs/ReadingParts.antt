@@ -78,7 +78,7 @@ module _ (cs : List ℕ) {first sign : ℕ} {hexadecimal : Bool} (f : first ≡ 
 whole-rest : (start : ℕ) (cs : List ℕ) → take (length cs - start) (drop start cs) ≡ drop start cs
 whole-rest start cs = take-all (length cs - start) (drop start cs) (omega (arith, length-drop start cs))
 
-module _ (cs : List ℕ) {p : Parts} {b : ℕ} (e : p ≡ parts cs) (f : b ≡ cond (p .hexadecimal) 16 10) where
+module _ (cs : List ℕ) {p : Parts} (e : p ≡ parts cs) where
   start-is : p .start ≡ digitsFrom cs
   unfolding parts
   start-is = ap (λ (q : Parts). q .start) e
@@ -90,10 +90,6 @@ module _ (cs : List ℕ) {p : Parts} {b : ℕ} (e : p ≡ parts cs) (f : b ≡ c
   pub hexadecimal-is : p .hexadecimal ≡ isHex cs
   unfolding parts
   hexadecimal-is = ap (λ (q : Parts). q .hexadecimal) e
-
-  base-is : b ≡ base cs
-  unfolding base
-  base-is = f ∙ ap (λ (t : Bool). cond t 16 10) hexadecimal-is
 
   -- the bytes that the code looks at
   abbrev pub rest : List ℕ
@@ -109,13 +105,29 @@ module _ (cs : List ℕ) {p : Parts} {b : ℕ} (e : p ≡ parts cs) (f : b ≡ c
   unfolding isInteger
   too-short h = rw (le-ltb (digitsFrom cs) (length cs) (subst (λ (n : ℕ). length cs ≤ n) start-is h)) refl
 
-  -- no byte may be another than a digit
-  pub all-digits : p .start < length cs → isInteger cs ≡ areDigits b rest
-  unfolding isInteger
-  all-digits h =
-      ap (λ (t : Bool). t && areDigits (base cs) (drop (digitsFrom cs) cs)) (lt-ltb (digitsFrom cs) (length cs) (subst (λ (n : ℕ). n < length cs) start-is h))
-      ∙ cc (base-is, rest-is)
+  module _ {b : ℕ} (f : b ≡ cond (p .hexadecimal) 16 10) where
+    base-is : b ≡ base cs
+    unfolding base
+    base-is = f ∙ ap (λ (t : Bool). cond t 16 10) hexadecimal-is
 
-  pub integer-is : integer cs ≡ withSign (p .negative) (numeral b rest)
-  unfolding integer
-  integer-is = cc (negative-is, base-is, rest-is)
+    digits-are : areDigits (base cs) (drop (digitsFrom cs) cs) ≡ areDigits b rest
+    digits-are = cc (base-is, rest-is)
+
+    -- no byte may be another than a digit
+    pub all-digits : p .start < length cs → isInteger cs ≡ areDigits b rest
+    unfolding isInteger
+    all-digits h =
+        ap (λ (t : Bool). t && areDigits (base cs) (drop (digitsFrom cs) cs)) (lt-ltb (digitsFrom cs) (length cs) (subst (λ (n : ℕ). n < length cs) start-is h))
+        ∙ digits-are
+
+    pub digits-of : isInteger cs ≡ true → areDigits b rest ≡ true
+    unfolding isInteger
+    digits-of h = sym digits-are ∙ both-right (ltb (digitsFrom cs) (length cs)) (areDigits (base cs) (drop (digitsFrom cs) cs)) h
+
+    pub integer-is : integer cs ≡ withSign (p .negative) (numeral b rest)
+    unfolding integer
+    integer-is = cc (negative-is, base-is, rest-is)
+
+pub base-bounds : (hexadecimal : Bool) {b : ℕ} → b ≡ cond hexadecimal 16 10 → (2 ≤ b) × (b ≤ 16)
+base-bounds true e = (omega (arith, e), omega (arith, e))
+base-bounds false e = (omega (arith, e), omega (arith, e))
