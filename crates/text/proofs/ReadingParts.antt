@@ -6,11 +6,11 @@ use mathlib.Core.Bool.{Bool, true, false, cond, _&&_, _||_}
 use mathlib.Core.List.{List}
 use lib.Dec.{T, eqb, ltb, lit<}
 use lib.ListN.{length, take, drop, length-drop, List·getD-eq-default}
-use lib.Seq.{take-all}
 use borrow.Author.Tests.{lt-ltb, le-ltb, ltb-true, ltb-false, eqb-true}
+use borrow.Rule.Slice.PartAt.{part-to-end}
 use Rattle.text.specs.declared.form.Parts.{Parts}
 use Rattle.bits.specs.Sign.{withSign}
-use Rattle.bits.proofs.Booleans.{both-right}
+use Rattle.bits.proofs.Booleans.{both-right, and-second}
 use Rattle.text.specs.Numerals.{byteAt, isMinus, afterSign, isPrefix, isHex, base, digitsFrom, isInteger, integer, areDigits, numeral}
 use Rattle.text.specs.Readings.{parts}
 
@@ -75,9 +75,6 @@ module _ (cs : List ℕ) {first sign : ℕ} {hexadecimal : Bool} (f : first ≡ 
 
 -- ---- whether they are an integer, and which
 
-whole-rest : (start : ℕ) (cs : List ℕ) → take (length cs - start) (drop start cs) ≡ drop start cs
-whole-rest start cs = take-all (length cs - start) (drop start cs) (omega (arith, length-drop start cs))
-
 module _ (cs : List ℕ) {p : Parts} (e : p ≡ parts cs) where
   start-is : p .start ≡ digitsFrom cs
   unfolding parts
@@ -96,7 +93,7 @@ module _ (cs : List ℕ) {p : Parts} (e : p ≡ parts cs) where
   rest = take (length cs - p .start) (drop (p .start) cs)
 
   rest-is : rest ≡ drop (digitsFrom cs) cs
-  rest-is = whole-rest (p .start) cs ∙ ap (λ (n : ℕ). drop n cs) start-is
+  rest-is = part-to-end cs (p .start) ∙ ap (λ (n : ℕ). drop n cs) start-is
 
   pub rest-length : length rest ≡ length cs - digitsFrom cs
   rest-length = ap length rest-is ∙ length-drop (digitsFrom cs) cs
@@ -117,7 +114,8 @@ module _ (cs : List ℕ) {p : Parts} (e : p ≡ parts cs) where
     pub all-digits : p .start < length cs → isInteger cs ≡ areDigits b rest
     unfolding isInteger
     all-digits h =
-        ap (λ (t : Bool). t && areDigits (base cs) (drop (digitsFrom cs) cs)) (lt-ltb (digitsFrom cs) (length cs) (subst (λ (n : ℕ). n < length cs) start-is h))
+        sym (and-second (ltb (digitsFrom cs) (length cs)) (areDigits (base cs) (drop (digitsFrom cs) cs))
+        (lt-ltb (digitsFrom cs) (length cs) (subst (λ (n : ℕ). n < length cs) start-is h)))
         ∙ digits-are
 
     pub digits-of : isInteger cs ≡ true → areDigits b rest ≡ true

@@ -1,15 +1,13 @@
 -- `text::word::read_word` meets its contract. Assumes nothing.
-use Prim.Native.Nat.{_-_}
 use mathlib.Core.Path.{_≡_, sym, ap, _∙_}
 use mathlib.Core.Bool.{Bool, true, cond}
-use lib.ListN.{length, take, drop}
 use borrow.Author.Tests.{not-true, not-false}
 use Rattle.bits.specs.Sign.{withSign}
 use Rattle.bits.proofs.WordLaws.{back}
 use Rattle.text.specs.declared.Reading.{Reading}
 use Rattle.text.specs.Numerals.{isInteger, integer, numeral}
 use Rattle.text.specs.Readings.{reading}
-use Rattle.text.proofs.ReadingParts.{digits-of, integer-is, base-bounds}
+use Rattle.text.proofs.ReadingParts.{rest, digits-of, integer-is, base-bounds}
 use Rattle.text.proofs.ReadingLaws.{value-asWord, reading-malformed, reading-by, reading-beyond}
 use borrow.Author.Needs.{needs}
 use Rattle.text.proofs.word.read_word.Statement.{statement}
@@ -41,7 +39,7 @@ integral : (c : tie.After-take-apart) → isInteger (c .before .before .before .
 integral c = sym (c .before .before .is-integer .ensures) ∙ not-false _ (c .before .if1 .left)
 
 number : (c : tie.After-base-of) → let a = c .before .before .before .before .before .args .text .now in let p = c .before .take-apart .result in
-    integer a ≡ withSign (p .negative) (numeral (c .base-of .result) (take (length a - p .start) (drop (p .start) a)))
+    integer a ≡ withSign (p .negative) (numeral (c .base-of .result) (rest a (c .before .take-apart .ensures .0)))
 number c = integer-is _ (c .before .take-apart .ensures .0) (c .base-of .ensures)
 
 sum-digits-requires : tie.Need-sum-digits-requires
