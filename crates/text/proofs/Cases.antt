@@ -1,10 +1,8 @@
 -- Texts and what they are, from the definitions. Bytes: 43 is +, 45 is -, 48 is 0, 120 is x.
-use Prim.Native.Nat.{ℕ, _^_}
 use mathlib.Core.Path.{_≡_, refl}
-use mathlib.Core.Bool.{true, false}
-use mathlib.Core.List.{List, [], _∷_}
-use lib.IntN.{ℤ, pos, negsuc}
-use Rattle.bits.specs.Testbit.{odd, testbit, halvings, bitLength, isNegative, fits}
+use mathlib.Core.List.{[], _∷_}
+use lib.IntN.{pos, negsuc}
+use Rattle.bits.specs.Testbit.{halvings, bitLength, isNegative, fits}
 use Rattle.bits.specs.Sign.{withSign}
 use Rattle.limbwords.specs.Value.{limbCount}
 use Rattle.text.specs.declared.Reading.{Reading}

@@ -16,6 +16,7 @@ use Rattle.bits.specs.Shift.{floorDiv, shiftRight}
 use Rattle.bits.specs.Division.{modℕ}
 use Rattle.bits.specs.Logical.{bitwiseNot}
 use Rattle.bits.proofs.ModLaws.{modℕ-not}
+use Rattle.bits.proofs.ShiftLaws.{shiftRight-not}
 use Rattle.limbwords.specs.Value.{value, limbsOf}
 use Rattle.limbwords.proofs.ValueLaws.{limbsOf-value}
 
@@ -28,11 +29,6 @@ negatedFrom lower [] = []
 negatedFrom lower (n ∷ ns) = negatedLimb lower n ∷ negatedFrom (lower || not (eqb n 0)) ns
 
 -- ---- -z, by its lowest limb
-
-shiftRight-not : (z : ℤ) (k : ℕ) → shiftRight (bitwiseNot z) k ≡ bitwiseNot (shiftRight z k)
-unfolding shiftRight floorDiv bitwiseNot
-shiftRight-not (pos n) k = refl
-shiftRight-not (negsuc n) k = refl
 
 low-negℤ : (z : ℤ) → (2 ^ 32 - modℕ z (2 ^ 32)) % 2 ^ 32 ≡ modℕ (negℤ z) (2 ^ 32)
 unfolding modℕ

@@ -1,6 +1,6 @@
 -- Digits and the numbers that they are: the digit of each byte, digits one after another, and how large their number is. Assumes nothing.
-use Prim.Native.Nat.{ℕ, _+_, _*_, _-_, _/_, _%_, _^_, _≤_, _<_}
-use native.Mathlib.Nat.{add-mul, mul-assoc, zero-mul, pow-zero, pow-succ', le-mul-of-pos-right, one-le-pow}
+use Prim.Native.Nat.{ℕ, zero, suc, _+_, _*_, _-_, _/_, _%_, _^_, _≤_, _<_}
+use native.Mathlib.Nat.{add-mul, mul-assoc, zero-mul, pow-zero, pow-suc, pow-succ', le-mul-of-pos-right, one-le-pow}
 use native.Mathlib.Numerals.{add-one}
 use native.Mathlib.Omega.{arith}
 use mathlib.Core.Path.{_≡_, refl, sym, ap, _∙_}
@@ -9,6 +9,7 @@ use mathlib.Core.List.{List, [], _∷_, _++_}
 use lib.Arith.{digits-lt, digits-div, digits-mod}
 use lib.Dec.{ltb, lit<}
 use lib.ListN.{length, getD, take, drop, take-append-drop, drop-of-length-le}
+use lib.Pow.{pow-add}
 use lib.Seq.{take-suc, drop-cons}
 use borrow.Author.Tests.{le-leb, lt-leb, lt-ltb, le-ltb, ltb-true}
 use Rattle.bits.proofs.Booleans.{both-left, both-right}
@@ -148,6 +149,13 @@ numeral-lt b (c ∷ cs) e =
       digits-lt d r,
       pow-succ' b (length cs),
     )
+
+-- places in hexadecimal
+pub pow-hex : (k : ℕ) → 16 ^ k ≡ 2 ^ (4 * k)
+pow-hex zero = refl
+pow-hex (suc k) =
+    let e : 4 * k + 4 ≡ 4 * suc k = omega arith in
+    pow-suc 16 k ∙ ap (λ (p : ℕ). p * 16) (pow-hex k) ∙ sym (pow-add 2 (4 * k) 4) ∙ ap (λ (m : ℕ). 2 ^ m) e
 
 -- digits taken apart: the first are the quotient, the others the remainder
 module _ (b : ℕ) (xs ys : List ℕ) (e : areDigits b ys ≡ true) where

@@ -1,6 +1,6 @@
 -- Hexadecimal digits as limbs: eight digits are a limb of their number, and limbs put one after another are those of an integer. Assumes nothing.
 use Prim.Native.Nat.{ℕ, zero, suc, _+_, _*_, _-_, _/_, _%_, _^_, _≤_, _<_}
-use native.Mathlib.Nat.{pow-suc, pow-le-pow-right, mod-eq-of-lt, div-eq-of-lt, lt-of-lt-of-le}
+use native.Mathlib.Nat.{pow-le-pow-right, mod-eq-of-lt, div-eq-of-lt, lt-of-lt-of-le}
 use native.Mathlib.Numerals.{add-one}
 use native.Mathlib.Omega.{arith}
 use mathlib.Core.Path.{_≡_, refl, sym, ap, ap₂, subst, _∙_}
@@ -9,7 +9,6 @@ use mathlib.Core.List.{List, [], _∷_, _++_, append-assoc}
 use lib.Dec.{leb, lit<}
 use lib.IntN.{ℤ, pos}
 use lib.ListN.{length, take, drop, set, length-append, length-drop, length-take, take-append-drop}
-use lib.Pow.{pow-add}
 use lib.Seq.{set-at, drop-cons, take-add}
 use borrow.Author.Tests.{leb-true, leb-false}
 use Rattle.bits.specs.Shift.{floorDiv, shiftRight}
@@ -18,7 +17,7 @@ use Rattle.bits.proofs.ShiftLaws.{shiftRight-zero, shiftRight-compose}
 use Rattle.limbwords.specs.Value.{bitsFrom, limbAt, limbsOf}
 use Rattle.limbwords.proofs.ValueLaws.{length-limbsOf}
 use Rattle.text.specs.Numerals.{areDigits, numeral}
-use Rattle.text.proofs.NumeralLaws.{areDigits-first, areDigits-rest, numeral-lt, numeral-quotient, numeral-remainder}
+use Rattle.text.proofs.NumeralLaws.{pow-hex, areDigits-first, areDigits-rest, numeral-lt, numeral-quotient, numeral-remainder}
 
 -- ---- limbs one after another
 
@@ -57,16 +56,10 @@ limb-above n j h = sym (limb-natural n j ∙ ap (λ (m : ℕ). m % 2 ^ 32) (div-
 
 -- ---- hexadecimal digits
 
-hex-power : (k : ℕ) → 16 ^ k ≡ 2 ^ (4 * k)
-hex-power zero = refl
-hex-power (suc k) =
-    let e : 4 * k + 4 ≡ 4 * suc k = omega arith in
-    pow-suc 16 k ∙ ap (λ (p : ℕ). p * 16) (hex-power k) ∙ sym (pow-add 2 (4 * k) 4) ∙ ap (λ (m : ℕ). 2 ^ m) e
-
 -- at most so many digits
 pub numeral-below : (cs : List ℕ) (k : ℕ) → areDigits 16 cs ≡ true → length cs ≤ k → numeral 16 cs < 2 ^ (4 * k)
 numeral-below cs k e h =
-    subst (λ (p : ℕ). numeral 16 cs < p) (hex-power k) (lt-of-lt-of-le (numeral-lt 16 cs e) (pow-le-pow-right {n = 16} (lit< tt) h))
+    subst (λ (p : ℕ). numeral 16 cs < p) (pow-hex k) (lt-of-lt-of-le (numeral-lt 16 cs e) (pow-le-pow-right {n = 16} (lit< tt) h))
 
 module _ (cs : List ℕ) (e : areDigits 16 cs ≡ true) where
   -- without the last 8 j digits
@@ -75,7 +68,7 @@ module _ (cs : List ℕ) (e : areDigits 16 cs ≡ true) where
       let l : length (drop left cs) ≡ 8 * j = omega (arith, length-drop left cs) in
       let m : 4 * (8 * j) ≡ 32 * j = omega arith in
       sym (ap₂ (λ (n p : ℕ). n / p) (ap (numeral 16) (sym (take-append-drop left cs)))
-      (sym (ap (λ (k : ℕ). 16 ^ k) l ∙ hex-power (8 * j) ∙ ap (λ (k : ℕ). 2 ^ k) m))
+      (sym (ap (λ (k : ℕ). 16 ^ k) l ∙ pow-hex (8 * j) ∙ ap (λ (k : ℕ). 2 ^ k) m))
       ∙ numeral-quotient 16 (take left cs) (drop left cs) (areDigits-rest 16 left cs e))
 
   -- the last eight of these digits, or all where there are fewer

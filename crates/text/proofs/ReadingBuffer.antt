@@ -1,5 +1,5 @@
 -- What reading leaves in the buffer: the limbs of a number, with its sign, are its first limbs, and the answer counts them. Assumes nothing.
-use Prim.Native.Nat.{ℕ, _+_, _*_, _-_, _/_, _^_, _≤_, _<_}
+use Prim.Native.Nat.{ℕ, _+_, _*_, _/_, _^_, _≤_, _<_}
 use native.Mathlib.Omega.{arith}
 use mathlib.Core.Path.{_≡_, refl, sym, ap, subst, _∙_}
 use mathlib.Core.Bool.{Bool, true, false, cond, _&&_, _||_, true≢false}
@@ -19,7 +19,7 @@ use Rattle.text.specs.declared.form.Parts.{Parts}
 use Rattle.text.specs.Numerals.{areDigits, numeral, isHex, isInteger, integer}
 use Rattle.text.specs.Readings.{parts, enough, limbReading, Holds}
 use Rattle.text.specs.Inner.{Lays}
-use Rattle.text.proofs.ReadingParts.{hexadecimal-is, rest-length, integer-is}
+use Rattle.text.proofs.ReadingParts.{hexadecimal-is, rest, rest-length, integer-is}
 use Rattle.text.proofs.NumeralLimbs.{numeral-below, put-length}
 
 -- ---- the natural number, before it has its sign
@@ -69,22 +69,19 @@ lays-as {z} {y} {fits} {r} {out} w e f = subst (λ (t : Bool). Lays y t r out) (
 -- ---- what the call answers
 
 -- whether the limbs fit, as the definition has it and as the code tests it
-module _ (cs : List ℕ) (k : ℕ) {p : Parts} {b : ℕ} (e : p ≡ parts cs) (f : b ≡ cond (p .hexadecimal) 16 10) where
-  abbrev limbsFit : Bool
-  limbsFit = (isHex cs || ltb (natAbs (integer cs)) (2 ^ 64)) && leb (enough cs) k
+abbrev pub limbsFit : List ℕ → ℕ → Bool
+limbsFit cs k = (isHex cs || ltb (natAbs (integer cs)) (2 ^ 64)) && leb (enough cs) k
 
-  abbrev digitsRead : List ℕ
-  digitsRead = take (length cs - p .start) (drop (p .start) cs)
-
-  pub hexadecimal-fits : p .hexadecimal ≡ true → limbsFit ≡ leb ((length digitsRead + 7) / 8 + 1) k
+module _ (cs : List ℕ) (k : ℕ) {p : Parts} (e : p ≡ parts cs) where
+  pub hexadecimal-fits : p .hexadecimal ≡ true → limbsFit cs k ≡ leb ((length (rest cs e) + 7) / 8 + 1) k
   unfolding enough
-  hexadecimal-fits h = rw (sym (hexadecimal-is cs e f) ∙ h, rest-length cs e f) refl
+  hexadecimal-fits h = rw (sym (hexadecimal-is cs e) ∙ h, rest-length cs e) refl
 
-  pub decimal-fits : p .hexadecimal ≡ false → limbsFit ≡ ltb (numeral b digitsRead) (2 ^ 64) && leb 3 k
+  pub decimal-fits : {b : ℕ} → b ≡ cond (p .hexadecimal) 16 10 → p .hexadecimal ≡ false → limbsFit cs k ≡ ltb (numeral b (rest cs e)) (2 ^ 64) && leb 3 k
   unfolding enough
-  decimal-fits h =
-      rw (sym (hexadecimal-is cs e f) ∙ h)
-      (ap (λ (n : ℕ). ltb n (2 ^ 64) && leb 3 k) (ap natAbs (integer-is cs e f) ∙ natAbs-withSign (p .negative) (numeral b digitsRead)))
+  decimal-fits {b} f h =
+      rw (sym (hexadecimal-is cs e) ∙ h)
+      (ap (λ (n : ℕ). ltb n (2 ^ 64) && leb 3 k) (ap natAbs (integer-is cs e f) ∙ natAbs-withSign (p .negative) (numeral b (rest cs e))))
 
 pub limbs-malformed : (cs : List ℕ) (k : ℕ) (out : List ℕ) → isInteger cs ≡ false
     → (LimbReading.Malformed ≡ limbReading cs k) × Holds cs LimbReading.Malformed out
@@ -92,7 +89,7 @@ unfolding limbReading
 limbs-malformed cs k out e = (rw e refl, record { limbs = λ n q. let z : _≡_ {A = ℕ} 0 1 = cc in absurd (omega arith) })
 
 pub limbs-read : (cs : List ℕ) (k : ℕ) {z : ℤ} {fits : Bool} {r : LimbReading} {out : List ℕ} → isInteger cs ≡ true → integer cs ≡ z
-    → (isHex cs || ltb (natAbs (integer cs)) (2 ^ 64)) && leb (enough cs) k ≡ fits → Lays z fits r out → (r ≡ limbReading cs k) × Holds cs r out
+    → limbsFit cs k ≡ fits → Lays z fits r out → (r ≡ limbReading cs k) × Holds cs r out
 unfolding limbReading
 limbs-read cs k {z} {fits} {r} {out} e f g w = (
   w .answer ∙ sym (rw (e, g) (ap (λ (y : ℤ). cond fits (LimbReading.Limbs (limbCount y)) LimbReading.TooLarge) f)),

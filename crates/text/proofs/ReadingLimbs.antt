@@ -44,8 +44,8 @@ take-limbsOf zero k z h = refl
 take-limbsOf (suc j) zero z h = absurd (omega arith)
 take-limbsOf (suc j) (suc k) z h = ap (λ (l : List ℕ). modℕ z (2 ^ 32) ∷ l) (take-limbsOf j k (shiftRight z 32) (omega arith))
 
-without-sign : (z : ℤ) → isNegative z ≡ false → withSign false (natAbs z) ≡ z
-without-sign z h = ap (λ (b : Bool). withSign b (natAbs z)) (sym h) ∙ withSign-natAbs z
+pub signed-absolute : (z : ℤ) {negative : Bool} → isNegative z ≡ negative → withSign negative (natAbs z) ≡ z
+signed-absolute z h = ap (λ (b : Bool). withSign b (natAbs z)) (sym h) ∙ withSign-natAbs z
 
 mag-withSign : (negative : Bool) (n : ℕ) → mag (withSign negative n) ≤ n
 unfolding withSign
@@ -66,20 +66,20 @@ module _ (negative : Bool) (xs : List ℕ) (p : isNegative (value xs) ≡ false)
 
   pub positive-limbs : ((i : ℕ) → getD xs i 0 < 2 ^ 32) → negative ≡ false → xs ≡ limbsOf (length xs) signed
   positive-limbs b e =
-      sym (ap (limbsOf (length xs)) (ap (λ (t : Bool). withSign t (natAbs (value xs))) e ∙ without-sign (value xs) p) ∙ limbsOf-value xs b)
+      sym (ap (limbsOf (length xs)) (ap (λ (t : Bool). withSign t (natAbs (value xs))) e ∙ signed-absolute (value xs) p) ∙ limbsOf-value xs b)
 
   pub negative-limbs : {out : List ℕ} → negative ≡ true → out ≡ limbsOf (length xs) (negℤ (value xs)) → out ≡ limbsOf (length xs) signed
   negative-limbs e f =
       f
       ∙ ap (limbsOf (length xs))
-      (sym (ap (λ (t : Bool). withSign t (natAbs (value xs))) e ∙ withSign-not false (natAbs (value xs)) ∙ ap negℤ (without-sign (value xs) p)))
+      (sym (ap (λ (t : Bool). withSign t (natAbs (value xs))) e ∙ withSign-not false (natAbs (value xs)) ∙ ap negℤ (signed-absolute (value xs) p)))
 
   module _ {out : List ℕ} (h : 0 < length xs) (e : out ≡ limbsOf (length xs) signed) where
     room : bitLength signed < 32 * length xs
     unfolding withSign
     room =
         signed-length negative (natAbs (value xs)) (32 * length xs)
-        (subst (λ (z : ℤ). bitLength z < 32 * length xs) (sym (without-sign (value xs) p)) (value-length xs h))
+        (subst (λ (z : ℤ). bitLength z < 32 * length xs) (sym (signed-absolute (value xs) p)) (value-length xs h))
 
     signed-count : limbCount (value out) ≡ limbCount signed
     signed-count = ap limbCount (ap value e ∙ value-limbsOf (length xs) signed room)

@@ -6,11 +6,11 @@ use mathlib.Core.Bool.{Bool, true, false, cond, _&&_, _||_}
 use mathlib.Core.List.{List}
 use lib.Dec.{T, eqb, ltb, lit<}
 use lib.ListN.{length, take, drop, length-drop, List·getD-eq-default}
-use lib.Seq.{take-all}
 use borrow.Author.Tests.{lt-ltb, le-ltb, ltb-true, ltb-false, eqb-true}
+use borrow.Rule.Slice.PartAt.{part-to-end}
 use Rattle.text.specs.declared.form.Parts.{Parts}
 use Rattle.bits.specs.Sign.{withSign}
-use Rattle.bits.proofs.Booleans.{both-right}
+use Rattle.bits.proofs.Booleans.{both-right, and-second}
 use Rattle.text.specs.Numerals.{byteAt, isMinus, afterSign, isPrefix, isHex, base, digitsFrom, isInteger, integer, areDigits, numeral}
 use Rattle.text.specs.Readings.{parts}
 
@@ -75,10 +75,7 @@ module _ (cs : List ℕ) {first sign : ℕ} {hexadecimal : Bool} (f : first ≡ 
 
 -- ---- whether they are an integer, and which
 
-whole-rest : (start : ℕ) (cs : List ℕ) → take (length cs - start) (drop start cs) ≡ drop start cs
-whole-rest start cs = take-all (length cs - start) (drop start cs) (omega (arith, length-drop start cs))
-
-module _ (cs : List ℕ) {p : Parts} {b : ℕ} (e : p ≡ parts cs) (f : b ≡ cond (p .hexadecimal) 16 10) where
+module _ (cs : List ℕ) {p : Parts} (e : p ≡ parts cs) where
   start-is : p .start ≡ digitsFrom cs
   unfolding parts
   start-is = ap (λ (q : Parts). q .start) e
@@ -91,16 +88,12 @@ module _ (cs : List ℕ) {p : Parts} {b : ℕ} (e : p ≡ parts cs) (f : b ≡ c
   unfolding parts
   hexadecimal-is = ap (λ (q : Parts). q .hexadecimal) e
 
-  base-is : b ≡ base cs
-  unfolding base
-  base-is = f ∙ ap (λ (t : Bool). cond t 16 10) hexadecimal-is
-
   -- the bytes that the code looks at
   abbrev pub rest : List ℕ
   rest = take (length cs - p .start) (drop (p .start) cs)
 
   rest-is : rest ≡ drop (digitsFrom cs) cs
-  rest-is = whole-rest (p .start) cs ∙ ap (λ (n : ℕ). drop n cs) start-is
+  rest-is = part-to-end cs (p .start) ∙ ap (λ (n : ℕ). drop n cs) start-is
 
   pub rest-length : length rest ≡ length cs - digitsFrom cs
   rest-length = ap length rest-is ∙ length-drop (digitsFrom cs) cs
@@ -109,13 +102,30 @@ module _ (cs : List ℕ) {p : Parts} {b : ℕ} (e : p ≡ parts cs) (f : b ≡ c
   unfolding isInteger
   too-short h = rw (le-ltb (digitsFrom cs) (length cs) (subst (λ (n : ℕ). length cs ≤ n) start-is h)) refl
 
-  -- no byte may be another than a digit
-  pub all-digits : p .start < length cs → isInteger cs ≡ areDigits b rest
-  unfolding isInteger
-  all-digits h =
-      ap (λ (t : Bool). t && areDigits (base cs) (drop (digitsFrom cs) cs)) (lt-ltb (digitsFrom cs) (length cs) (subst (λ (n : ℕ). n < length cs) start-is h))
-      ∙ cc (base-is, rest-is)
+  module _ {b : ℕ} (f : b ≡ cond (p .hexadecimal) 16 10) where
+    base-is : b ≡ base cs
+    unfolding base
+    base-is = f ∙ ap (λ (t : Bool). cond t 16 10) hexadecimal-is
 
-  pub integer-is : integer cs ≡ withSign (p .negative) (numeral b rest)
-  unfolding integer
-  integer-is = cc (negative-is, base-is, rest-is)
+    digits-are : areDigits (base cs) (drop (digitsFrom cs) cs) ≡ areDigits b rest
+    digits-are = cc (base-is, rest-is)
+
+    -- no byte may be another than a digit
+    pub all-digits : p .start < length cs → isInteger cs ≡ areDigits b rest
+    unfolding isInteger
+    all-digits h =
+        sym (and-second (ltb (digitsFrom cs) (length cs)) (areDigits (base cs) (drop (digitsFrom cs) cs))
+        (lt-ltb (digitsFrom cs) (length cs) (subst (λ (n : ℕ). n < length cs) start-is h)))
+        ∙ digits-are
+
+    pub digits-of : isInteger cs ≡ true → areDigits b rest ≡ true
+    unfolding isInteger
+    digits-of h = sym digits-are ∙ both-right (ltb (digitsFrom cs) (length cs)) (areDigits (base cs) (drop (digitsFrom cs) cs)) h
+
+    pub integer-is : integer cs ≡ withSign (p .negative) (numeral b rest)
+    unfolding integer
+    integer-is = cc (negative-is, base-is, rest-is)
+
+pub base-bounds : (hexadecimal : Bool) {b : ℕ} → b ≡ cond hexadecimal 16 10 → (2 ≤ b) × (b ≤ 16)
+base-bounds true e = (omega (arith, e), omega (arith, e))
+base-bounds false e = (omega (arith, e), omega (arith, e))

@@ -11,7 +11,7 @@ use lib.Seq.{length-take-le, take-suc, set-at}
 use Rattle.bits.specs.Testbit.{bitLength}
 use Rattle.bits.proofs.LengthLaws.{bitLength-le, mag-lt}
 use Rattle.text.specs.Numerals.{glyph, digits, hexLength}
-use Rattle.text.proofs.SpellNatural.{pow-hex}
+use Rattle.text.proofs.NumeralLaws.{pow-hex}
 
 -- ---- how many digits there are
 
@@ -60,7 +60,7 @@ length-digits b zero n = refl
 length-digits b (suc k) n = length-append (digits b k (n / b)) (glyph (n % b) ∷ []) ∙ ap (λ (m : ℕ). m + 1) (length-digits b k (n / b)) ∙ add-one k
 
 -- one more in front
-pub digits-more : (b k n : ℕ) → digits b (suc k) n ≡ glyph (n / b ^ k % b) ∷ digits b k n
+digits-more : (b k n : ℕ) → digits b (suc k) n ≡ glyph (n / b ^ k % b) ∷ digits b k n
 unfolding digits
 digits-more b zero n = ap (λ (m : ℕ). glyph (m % b) ∷ []) (sym (ap (λ (m : ℕ). n / m) (pow-zero b) ∙ div-one n))
 digits-more b (suc k) n =

@@ -1,9 +1,9 @@
 -- The number that limbs are without a sign: its hexadecimal digits, its size, and the limbs of a number and of its negation. Assumes nothing.
 use Prim.Native.Nat.{ℕ, zero, suc, _+_, _*_, _-_, _/_, _%_, _^_, _≤_, _<_}
-use native.Mathlib.Nat.{pow-suc, mul-assoc, div-one, div-eq-of-lt, add-mul-mod-self-left}
+use native.Mathlib.Nat.{mul-assoc, div-one, div-eq-of-lt, add-mul-mod-self-left}
 use native.Mathlib.Omega.{arith}
-use mathlib.Core.Path.{_≡_, refl, sym, ap, _∙_, subst}
-use mathlib.Core.Bool.{true, false, true≢false}
+use mathlib.Core.Path.{_≡_, sym, ap, _∙_, subst}
+use mathlib.Core.Bool.{true, false}
 use mathlib.Core.List.{List, [], _∷_}
 use lib.IntN.{ℤ, pos, negsuc, negℤ, natAbs}
 use lib.ListN.{length, getD, drop}
@@ -13,16 +13,14 @@ use lib.Seq.{drop-cons}
 use Rattle.bits.specs.Testbit.{isNegative}
 use Rattle.bits.specs.Shift.{floorDiv, shiftRight}
 use Rattle.bits.specs.Division.{modℕ}
+use Rattle.bits.specs.Sign.{withSign}
 use Rattle.bits.proofs.LengthLaws.{mag-lt}
+use Rattle.words.proofs.SignedLaws.{withSign-not}
 use Rattle.limbwords.specs.Value.{value, limbsOf}
 use Rattle.limbwords.proofs.ValueLaws.{value-length, limbsOf-value}
 use Rattle.text.specs.Spellings.{natural}
-
-pub pow-hex : (i : ℕ) → 16 ^ i ≡ 2 ^ (4 * i)
-pow-hex zero = refl
-pow-hex (suc i) =
-    let e : 4 * i + 4 ≡ 4 * suc i = omega arith in
-    pow-suc 16 i ∙ ap (λ (m : ℕ). m * 16) (pow-hex i) ∙ sym (pow-add 2 (4 * i) 4) ∙ ap (λ (k : ℕ). 2 ^ k) e
+use Rattle.text.proofs.NumeralLaws.{pow-hex}
+use Rattle.text.proofs.ReadingLimbs.{signed-absolute}
 
 -- ---- digits of limbs
 
@@ -98,20 +96,14 @@ natural-absolute xs h =
       pow-lt {i = 32 * length xs - 1} {j = 32 * length xs} (omega arith),
     ))
 
-nonnegative-pos : (z : ℤ) → isNegative z ≡ false → z ≡ pos (natAbs z)
-unfolding isNegative
-nonnegative-pos (pos n) e = refl
-nonnegative-pos (negsuc n) e = absurd (true≢false e)
-
-negative-pos : (z : ℤ) → isNegative z ≡ true → negℤ z ≡ pos (natAbs z)
-unfolding isNegative
-negative-pos (pos n) e = absurd (true≢false (sym e))
-negative-pos (negsuc n) e = refl
-
 -- limbs that are not negative, and the limbs of -z for limbs that are
 pub natural-nonnegative : (xs : List ℕ) → ((j : ℕ) → getD xs j 0 < 2 ^ 32) → 0 < length xs → isNegative (value xs) ≡ false → natural xs ≡ natAbs (value xs)
+unfolding withSign
 natural-nonnegative xs b h e =
-    ap natural (sym (limbsOf-value xs b) ∙ ap (limbsOf (length xs)) (nonnegative-pos (value xs) e)) ∙ natural-absolute xs h
+    ap natural (sym (limbsOf-value xs b) ∙ ap (limbsOf (length xs)) (sym (signed-absolute (value xs) e))) ∙ natural-absolute xs h
 
 pub natural-negative : (xs : List ℕ) → 0 < length xs → isNegative (value xs) ≡ true → natural (limbsOf (length xs) (negℤ (value xs))) ≡ natAbs (value xs)
-natural-negative xs h e = ap (λ (z : ℤ). natural (limbsOf (length xs) z)) (negative-pos (value xs) e) ∙ natural-absolute xs h
+unfolding withSign
+natural-negative xs h e =
+    ap (λ (z : ℤ). natural (limbsOf (length xs) z)) (ap negℤ (sym (signed-absolute (value xs) e)) ∙ sym (withSign-not true (natAbs (value xs))))
+    ∙ natural-absolute xs h

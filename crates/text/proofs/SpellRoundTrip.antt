@@ -7,21 +7,21 @@ use mathlib.Core.Path.{_≡_, refl, sym, ap, ap₂, _∙_, subst}
 use mathlib.Core.Bool.{Bool, true, false, cond, _&&_}
 use mathlib.Core.List.{List, [], _∷_, _++_}
 use lib.Dec.{ltb, lit<}
-use lib.IntN.{ℤ, pos, negsuc, natAbs}
+use lib.IntN.{ℤ, pos, natAbs}
 use lib.ListN.{length, take, drop}
 use lib.Seq.{take-append-seam}
 use borrow.Author.Tests.{lt-ltb, le-leb, ltb-true, ltb-false}
 use Rattle.bits.specs.Testbit.{isNegative, fits}
 use Rattle.bits.specs.Sign.{withSign}
 use Rattle.bits.proofs.LengthLaws.{mag-lt}
+use Rattle.words.proofs.SignedLaws.{withSign-natAbs}
 use Rattle.limbwords.specs.Value.{value, limbCount}
 use Rattle.text.specs.Numerals.{digit, areDigits, numeralFrom, numeral, byteAt, isMinus, afterSign, isPrefix, isHex, base, digitsFrom, isInteger, integer, glyph, digits, hexLength, spelled}
 use Rattle.text.specs.declared.Reading.{Reading}
 use Rattle.text.specs.declared.LimbReading.{LimbReading}
 use Rattle.text.specs.Readings.{reading, enough, limbReading}
 use Rattle.text.specs.Spellings.{hasRoom, written, Spells}
-use Rattle.text.proofs.NumeralLaws.{digit-decimal, digit-lower, areDigits-append, numeral-append}
-use Rattle.text.proofs.SpellNatural.{pow-hex}
+use Rattle.text.proofs.NumeralLaws.{digit-decimal, digit-lower, pow-hex, areDigits-append, numeral-append}
 use Rattle.text.proofs.SpellDigits.{length-digits}
 use Rattle.text.proofs.SpellBuffer.{dash}
 
@@ -91,11 +91,6 @@ enough-text false ds = omega arith
 
 -- ---- the round trip
 
-sign-absolute : (z : ℤ) → withSign (isNegative z) (natAbs z) ≡ z
-unfolding withSign isNegative
-sign-absolute (pos n) = refl
-sign-absolute (negsuc n) = refl
-
 pub isInteger-spelled : (z : ℤ) → isInteger (spelled z) ≡ true
 unfolding spelled hexLength
 isInteger-spelled z =
@@ -108,7 +103,7 @@ integer-spelled z =
     let k = hexLength (natAbs z) in
     integer-text (isNegative z) (digits 16 k (natAbs z))
     ∙ ap (withSign (isNegative z)) (numeral-digits 16 (lit< tt) (omega arith) k (natAbs z) (hexLength-enough (natAbs z)))
-    ∙ sign-absolute z
+    ∙ withSign-natAbs z
 
 -- what spelling puts at the start of a buffer
 pub read-back : (xs out : List ℕ) (r : ℕ) (out′ : List ℕ) → Spells xs out r out′ → hasRoom xs out ≡ true

@@ -14,7 +14,7 @@
 --   hexLength n       ==  how many hexadecimal digits n has, at least one
 --   spelled z         ==  the text of an integer in hexadecimal: a - where it is negative, 0x, and no zero in front
 use Prim.Native.Nat.{ℕ, zero, suc, _+_, _-_, _*_, _/_, _%_, max}
-use mathlib.Core.Bool.{Bool, true, false, cond, _&&_, _||_}
+use mathlib.Core.Bool.{Bool, true, cond, _&&_, _||_}
 use mathlib.Core.List.{List, [], _∷_, _++_}
 use lib.Dec.{eqb, leb, ltb}
 use lib.IntN.{ℤ, pos, natAbs}

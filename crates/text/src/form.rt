@@ -1,9 +1,11 @@
 // The parts of a text: its sign, its base and its digits.
 ghost use mathlib.Core.Path.{_≡_};
-ghost use Prim.Native.Nat.{_<_, _≤_, _+_, _^_};
+ghost use mathlib.Core.Bool.{cond};
+ghost use Prim.Native.Nat.{_<_, _≤_};
 ghost use lib.ListN.{length};
-ghost use Rattle.text.specs.Numerals.{byteAt, isPrefix};
+ghost use Rattle.text.specs.Numerals.{byteAt, isPrefix, isInteger};
 ghost use Rattle.text.specs.Readings.{parts};
+use super::digit::are_digits;
 
 pub struct Parts {
     pub negative: bool,
@@ -50,4 +52,22 @@ pub fn take_apart(text: &[u8]) -> Parts
             start: sign,
         }
     }
+}
+
+pub fn base_of(hexadecimal: bool) -> u64
+    ensures { λ r. ⌜ r ≡ cond hexadecimal 16 10 ⌝ }
+{
+    if hexadecimal { 16 } else { 10 }
+}
+
+// Whether a text is an integer: one digit or more, and nothing after them.
+pub fn is_integer(text: &[u8]) -> bool
+    ensures { λ r. ⌜ r ≡ isInteger (now (text .entry)) ⌝ }
+{
+    let parts = take_apart(text);
+    let start = parts.start;
+    if text.len() <= start {
+        return false;
+    }
+    are_digits(base_of(parts.hexadecimal), &text[start..])
 }

@@ -15,7 +15,7 @@ ghost use Rattle.text.specs.Readings.{Holds, limbReading};
 ghost use Rattle.text.specs.Inner.{Lays};
 use super::LimbReading;
 use super::Natural;
-use super::digit::are_digits;
+use super::form::is_integer;
 use super::form::take_apart;
 use super::negate::negate;
 use super::word::sum_digits;
@@ -139,15 +139,11 @@ pub fn read_limbs(text: &[u8], out: &mut [u32]) -> LimbReading
     ensures { λ r. ⌜ r ≡ limbReading (now (text .entry)) (length (now (out .entry))) ⌝ }
     ensures { λ r. ⌜ Holds (now (text .entry)) r (now (out .exit)) ⌝ }
 {
+    if !is_integer(text) {
+        return LimbReading::Malformed;
+    }
     let parts = take_apart(text);
     let start = parts.start;
-    let base = if parts.hexadecimal { 16 } else { 10 };
-    if text.len() <= start {
-        return LimbReading::Malformed;
-    }
-    if !are_digits(base, &text[start..]) {
-        return LimbReading::Malformed;
-    }
     if parts.hexadecimal {
         read_hexadecimal(parts.negative, &text[start..], out)
     } else {

@@ -3,7 +3,6 @@ ghost use mathlib.Core.Path.{_≡_};
 ghost use mathlib.Core.List.{_∷_, _++_};
 ghost use Prim.Native.Nat.{_<_, _≤_, _+_, _*_, _/_, _%_, _^_};
 ghost use lib.ListN.{length, drop};
-ghost use Rattle.limbwords.specs.Value.{value};
 ghost use Rattle.text.specs.Numerals.{digits, hexLength};
 ghost use Rattle.text.specs.Spellings.{natural, Spells};
 use super::digit::glyph;

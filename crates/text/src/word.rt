@@ -6,8 +6,9 @@ ghost use Rattle.text.specs.Numerals.{areDigits, numeral};
 ghost use Rattle.text.specs.Readings.{asWord, reading};
 use super::Natural;
 use super::Reading;
-use super::digit::are_digits;
 use super::digit::digit;
+use super::form::base_of;
+use super::form::is_integer;
 use super::form::take_apart;
 use words::sign::absolute_fits;
 use words::sign::from_absolute;
@@ -35,16 +36,12 @@ pub fn sum_digits(base: u64, text: &[u8]) -> Natural
 pub fn read_word(text: &[u8]) -> Reading
     ensures { λ r. ⌜ r ≡ reading (now (text .entry)) ⌝ }
 {
+    if !is_integer(text) {
+        return Reading::Malformed;
+    }
     let parts = take_apart(text);
     let start = parts.start;
-    let base = if parts.hexadecimal { 16 } else { 10 };
-    if text.len() <= start {
-        return Reading::Malformed;
-    }
-    if !are_digits(base, &text[start..]) {
-        return Reading::Malformed;
-    }
-    match sum_digits(base, &text[start..]) {
+    match sum_digits(base_of(parts.hexadecimal), &text[start..]) {
         Natural::Value(n) => {
             if absolute_fits(64, parts.negative, n) {
                 Reading::Number(from_absolute(parts.negative, n))
