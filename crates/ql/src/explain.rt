@@ -91,10 +91,14 @@ fn print_count_rule(request: Request) {
     print_natural(request.count);
 }
 
-// The rule that a refused call breaks, whatever the width is.
-pub fn print_rule(request: Request, refusal: u64) {
+// The rule that a refused call breaks. It holds for every width with the same answer.
+pub fn print_rule(width: u64, request: Request, refusal: u64) {
     match refusal {
-        1 => print(b"the width must be from 24 to 62"),
+        1 => {
+            print(b"the width is ");
+            print_natural(width);
+            print(b", and must be from 24 to 62");
+        }
         2 => {
             print(b"the code is ");
             print_natural(request.code);
@@ -214,13 +218,8 @@ fn print_range(width: u64) {
 pub fn explain(width: u64, request: Request, refusal: u64) {
     let args = request.args;
     print_refused(refusal);
-    if refusal == 1 {
-        print(b"the width is ");
-        print_natural(width);
-        print(b": ");
-    }
     print_argument(culprit(width, request, refusal), args);
-    print_rule(request, refusal);
+    print_rule(width, request, refusal);
     if refusal == 4 || refusal == 6 || (refusal == 5 && request.code == 15) {
         print_range(width);
     }

@@ -169,10 +169,9 @@ fn print_end(field: Field, x: i64, state: State) {
     print(b"net count: ");
     print_natural(state.net);
     if state.odd {
-        print(b", after a reversal, since an odd number of them was done\n");
-    } else {
-        print(b", with no reversal, since an even number of them was done\n");
+        print(b", after a reversal, since an odd number of them was done");
     }
+    print(b"\n");
     print_rotation(field, x, state);
 }
 

@@ -1,5 +1,7 @@
 // `ql ops`: the table of operations.
 ghost use Rattle.io.specs.Counts.{Counts};
+use super::argument::complain;
+use super::argument::is_given;
 use super::bitwise_rules::arity;
 use super::explain::print_counts;
 use super::names::bitwise_name;
@@ -84,6 +86,10 @@ fn print_bitwise_rows() {
 }
 
 pub fn run() {
+    if is_given(2) {
+        complain(2, b"no further word");
+        return;
+    }
     print(b"operations of ql fx and ql widths: code, name, how many arguments, and which\n");
     let mut code = 1;
     while code <= 41 {

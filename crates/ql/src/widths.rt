@@ -78,10 +78,10 @@ fn print_widths(request: Request, width: u64) {
     }
 }
 
-fn print_answer(request: Request, answer: Answer) {
+fn print_answer(width: u64, request: Request, answer: Answer) {
     if answer.refusal != 0 {
         print_refused(answer.refusal);
-        print_rule(request, answer.refusal);
+        print_rule(width, request, answer.refusal);
         return;
     }
     print_both(answer.first);
@@ -98,7 +98,7 @@ fn print_group(request: Request, width: u64) {
     }
     print_widths(request, width);
     print(b": ");
-    print_answer(request, ask(width, request));
+    print_answer(width, request, ask(width, request));
     print(b"\n");
 }
 

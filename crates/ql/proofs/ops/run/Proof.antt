@@ -6,14 +6,28 @@ use Rattle.ql.proofs.ops.run.Tie as tie
 use Rattle.ql.proofs.ops.run.Reads as reads
 use Rattle.ql.proofs.ops.run.Lts as lts
 use Rattle.output.proofs.print.Reads as print-reads
+use Rattle.ql.proofs.argument.complain.Reads as complain-reads
+use Rattle.ql.proofs.argument.is_given.Reads as is-given-reads
 use Rattle.ql.proofs.ops.print_bitwise_rows.Reads as print-bitwise-rows-reads
 use Rattle.ql.proofs.ops.print_fixnum_row.Reads as print-fixnum-row-reads
 
 abbrev Inv-loop : tie.InvT-loop
-Inv-loop code₀ t3 code = Unit {0}
+Inv-loop code₀ t4 code = Unit {0}
 
 abbrev μ-loop : tie.MeasureT-loop
-μ-loop code₀ t3 code = 42 - code
+μ-loop code₀ t4 code = 42 - code
+
+is-given-requires : tie.Need-is-given-requires Inv-loop μ-loop
+is-given-requires c κs = search needs
+
+slice-aggregate-complain : tie.Need-slice-aggregate-complain Inv-loop μ-loop
+slice-aggregate-complain c = search needs
+
+complain-requires : tie.Need-complain-requires Inv-loop μ-loop
+complain-requires c κs = search needs
+
+returns : tie.Need-returns Inv-loop μ-loop
+returns c = search needs
 
 slice-aggregate-print : tie.Need-slice-aggregate-print Inv-loop μ-loop
 slice-aggregate-print c = search needs
@@ -45,8 +59,8 @@ print-requires-2 c κs = search needs
 print-bitwise-rows-requires : tie.Need-print-bitwise-rows-requires Inv-loop μ-loop
 print-bitwise-rows-requires c κs = search needs
 
-returns : tie.Need-returns Inv-loop μ-loop
-returns c = search needs
+returns-2 : tie.Need-returns-2 Inv-loop μ-loop
+returns-2 c = search needs
 
 pub run-spec : {M : Type 1} → statement M
 run-spec =
@@ -54,6 +68,10 @@ run-spec =
     (tie.spec
     Inv-loop
     μ-loop
+    is-given-requires
+    slice-aggregate-complain
+    complain-requires
+    returns
     slice-aggregate-print
     print-requires
     loop-holds
@@ -64,4 +82,4 @@ run-spec =
     slice-aggregate-print-2
     print-requires-2
     print-bitwise-rows-requires
-    returns)
+    returns-2)
