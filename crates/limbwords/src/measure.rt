@@ -56,12 +56,13 @@ pub fn measure(operation: Operation, x: &[u32], y: &[u32], z: &[u32], enough: us
     ensures { λ r. ⌜ r ≡ limbCount (meaning operation (value (now (x .entry))) (value (now (y .entry))) (value (now (z .entry)))) ⌝ }
 {
     let mut n = enough;
+    let mut high = limb_of(operation, x, y, z, n - 1);
     while 1 < n {
         let low = limb_of(operation, x, y, z, n - 2);
-        let high = limb_of(operation, x, y, z, n - 1);
         if !is_padding(low, high) {
             return n;
         }
+        high = low;
         n -= 1;
     }
     n
