@@ -55,9 +55,11 @@ bitsFrom-ior x y at =
     bitsFrom-bitwise _||_ x y at _ (or-lt 32 (bitsFrom x at) (bitsFrom y at) (bitsFrom-lt x at) (bitsFrom-lt y at))
     (λ t k. testbit-digitwise ior-digitwise t (bitsFrom x at) (bitsFrom y at))
 
-pub bitsFrom-if : (x y z : ℤ) (at : ℕ)
-    → bitOr (bitAnd (bitsFrom x at) (bitsFrom y at)) (bitAnd (4294967295 - bitsFrom x at) (bitsFrom z at)) ≡ bitsFrom (bitwiseIf x y z) at
+-- a choice between two limbs, as a limb of the choice
+pub bitsFrom-if : (x y z : ℤ) (at : ℕ) {m a b : ℕ} → m ≡ bitsFrom x at → a ≡ bitsFrom y at → b ≡ bitsFrom z at
+    → bitOr (bitAnd m a) (bitAnd (4294967295 - m) b) ≡ bitsFrom (bitwiseIf x y z) at
 unfolding bitwiseIf
-bitsFrom-if x y z at =
-    ap₂ bitOr (bitsFrom-and x y at) (ap (λ (n : ℕ). bitAnd n (bitsFrom z at)) (bitsFrom-not x at) ∙ bitsFrom-and (bitwiseNot x) z at)
-    ∙ bitsFrom-ior (bitwiseAnd x y) (bitwiseAnd (bitwiseNot x) z) at
+bitsFrom-if x y z at p q r =
+    rw (p, q, r)
+    (ap₂ bitOr (bitsFrom-and x y at) (ap (λ (n : ℕ). bitAnd n (bitsFrom z at)) (bitsFrom-not x at) ∙ bitsFrom-and (bitwiseNot x) z at)
+    ∙ bitsFrom-ior (bitwiseAnd x y) (bitwiseAnd (bitwiseNot x) z) at)
