@@ -4,14 +4,16 @@ ghost use Prim.Native.Nat.{_*_, _<_, _^_};
 ghost use lib.Dec.{eqb};
 ghost use lib.ListN.{length};
 ghost use Rattle.bits.specs.Testbit.{bitLength};
+ghost use Rattle.bits.specs.Logical.{bitwise};
 ghost use Rattle.limbwords.specs.Value.{value, limbAt, limbCount};
-ghost use Rattle.limbwords.specs.Results.{meaning, Proper, continued};
+ghost use Rattle.limbwords.specs.Results.{logicOf, meaning, Proper, continued};
 use super::field::copy_field_limb;
 use super::field::field_limb;
 use super::field::reverse_limb;
 use super::field::rotate_limb;
 use super::logical::if_limb;
 use super::logical::logical_limb;
+use super::result::Logic;
 use super::result::Operation;
 use super::shift::shift_left_limb;
 use super::shift::shift_right_limb;
@@ -47,7 +49,7 @@ fn is_padding(low: u32, high: u32) -> bool
 }
 
 // The length of the result's shortest form, from a number of limbs that is enough downwards.
-pub fn measure(operation: Operation, x: &[u32], y: &[u32], z: &[u32], enough: usize) -> usize
+fn measure_any(operation: Operation, x: &[u32], y: &[u32], z: &[u32], enough: usize) -> usize
     requires { ⌜ 0 < length (now x) ⌝ }
     requires { ⌜ 0 < length (now y) ⌝ }
     requires { ⌜ 0 < length (now z) ⌝ }
@@ -66,4 +68,43 @@ pub fn measure(operation: Operation, x: &[u32], y: &[u32], z: &[u32], enough: us
         n -= 1;
     }
     n
+}
+
+// The same for a logical operation.
+fn measure_logical(by: Logic, x: &[u32], y: &[u32], enough: usize) -> usize
+    requires { ⌜ 0 < length (now x) ⌝ }
+    requires { ⌜ 0 < length (now y) ⌝ }
+    requires { ⌜ 0 < enough ⌝ }
+    requires { ⌜ bitLength (bitwise (logicOf by) (value (now x)) (value (now y))) < 32 * enough ⌝ }
+    ensures { λ r. ⌜ r ≡ limbCount (bitwise (logicOf by) (value (now (x .entry))) (value (now (y .entry)))) ⌝ }
+{
+    let mut n = enough;
+    let mut high = logical_limb(by, x, y, n - 1);
+    while 1 < n {
+        let low = logical_limb(by, x, y, n - 2);
+        if !is_padding(low, high) {
+            return n;
+        }
+        high = low;
+        n -= 1;
+    }
+    n
+}
+
+// The same; one limb is the least.
+pub fn measure(operation: Operation, x: &[u32], y: &[u32], z: &[u32], enough: usize) -> usize
+    requires { ⌜ 0 < length (now x) ⌝ }
+    requires { ⌜ 0 < length (now y) ⌝ }
+    requires { ⌜ 0 < length (now z) ⌝ }
+    requires { ⌜ Proper operation × ((0 < enough) × (enough < 2 ^ 32)) ⌝ }
+    requires { ⌜ bitLength (meaning operation (value (now x)) (value (now y)) (value (now z))) < 32 * enough ⌝ }
+    ensures { λ r. ⌜ r ≡ limbCount (meaning operation (value (now (x .entry))) (value (now (y .entry))) (value (now (z .entry)))) ⌝ }
+{
+    if enough == 1 {
+        return 1;
+    }
+    match operation {
+        Operation::Logical(by) => measure_logical(by, x, y, enough),
+        _ => measure_any(operation, x, y, z, enough),
+    }
 }
