@@ -1,11 +1,13 @@
 -- The logical operations on limbs. Assumes nothing.
-use Prim.Native.Nat.{ℕ, suc, _+_, _-_, _^_, _<_}
+use Prim.Native.Nat.{ℕ, suc, _+_, _*_, _-_, _^_, _<_}
 use native.Mathlib.Nat.{zero-add}
 use native.Mathlib.Omega.{arith}
 use mathlib.Core.Path.{_≡_, sym, ap, ap₂, _∙_}
 use mathlib.Core.Bool.{Bool, not, _&&_, _||_}
+use mathlib.Core.List.{List}
 use lib.Bits.{bitAnd, bitOr, and-lt, or-lt}
 use lib.IntN.{ℤ, pos}
+use lib.ListN.{length, getD}
 use lib.Pow.{pow-pos}
 use Rattle.bits.specs.Testbit.{testbit}
 use Rattle.bits.specs.Logical.{bitwiseNot, bitwise, bitwiseAnd, bitwiseIor, bitwiseIf}
@@ -15,8 +17,8 @@ use Rattle.bits.proofs.ModLaws.{modℕ-not, modℕ-small}
 use Rattle.bits.proofs.ShiftLaws.{shiftRight-zero, shiftRight-not}
 use Rattle.bits.proofs.LogicalLaws.{testbit-not, testbit-bitwise}
 use Rattle.bits.proofs.Digitwise.{testbit-digitwise, and-digitwise, ior-digitwise}
-use Rattle.limbwords.specs.Value.{bitsFrom}
-use Rattle.limbwords.proofs.LimbLaws.{bitsFrom-lt, testbit-bitsFrom, word-ext}
+use Rattle.limbwords.specs.Value.{value, bitsFrom, limbAt}
+use Rattle.limbwords.proofs.LimbLaws.{bitsFrom-lt, testbit-bitsFrom, word-ext, limb-value}
 
 pub bitsFrom-not : (z : ℤ) (at : ℕ) → 4294967295 - bitsFrom z at ≡ bitsFrom (bitwiseNot z) at
 unfolding bitsFrom
@@ -41,6 +43,15 @@ pub bitsFrom-bitwise : (op : Bool → Bool → Bool) (x y : ℤ) (at r : ℕ) �
 bitsFrom-bitwise op x y at r h e =
     word-ext r (bitwise op x y) at h (λ t k.
     e t k ∙ ap₂ op (testbit-bitsFrom x at t k) (testbit-bitsFrom y at t k) ∙ sym (testbit-bitwise op x y (at + t)))
+
+-- the same of the limbs of two operands
+pub limb-bitwise : (op : Bool → Bool → Bool) (xs ys : List ℕ) (j : ℕ) {r : ℕ} → ((i : ℕ) → getD xs i 0 < 2 ^ 32) → ((i : ℕ) → getD ys i 0 < 2 ^ 32)
+    → j < length xs → j < length ys → r < 2 ^ 32
+    → ((t : ℕ) → t < 32 → testbit (pos r) t ≡ op (testbit (pos (getD xs j 0)) t) (testbit (pos (getD ys j 0)) t))
+    → r ≡ limbAt (bitwise op (value xs) (value ys)) j
+limb-bitwise op xs ys j {r} b c h k l e =
+    bitsFrom-bitwise op (value xs) (value ys) (32 * j) r l (λ t m.
+    e t m ∙ ap₂ (λ (p q : ℕ). op (testbit (pos p) t) (testbit (pos q) t)) (limb-value xs j b h) (limb-value ys j c k))
 
 -- and of two limbs, as a limb of the and
 pub bitsFrom-and : (x y : ℤ) (at : ℕ) → bitAnd (bitsFrom x at) (bitsFrom y at) ≡ bitsFrom (bitwiseAnd x y) at

@@ -22,6 +22,14 @@ pub fn combine(by: Logic, a: u32, b: u32) -> u32
     }
 }
 
+// A limb that both operands have.
+pub fn common_limb(by: Logic, x: &[u32], y: &[u32], j: usize) -> u32
+    requires { ⌜ (j < length (now x)) × (j < length (now y)) ⌝ }
+    ensures { λ r. ⌜ r ≡ limbAt (bitwise (logicOf by) (value (now (x .entry))) (value (now (y .entry)))) j ⌝ }
+{
+    combine(by, x[j], y[j])
+}
+
 pub fn logical_limb(by: Logic, x: &[u32], y: &[u32], j: usize) -> u32
     requires { ⌜ 0 < length (now x) ⌝ }
     requires { ⌜ 0 < length (now y) ⌝ }

@@ -1,6 +1,6 @@
 // The limbs of a described result at any index, and how many it needs.
 ghost use mathlib.Core.Path.{_≡_};
-ghost use Prim.Native.Nat.{_*_, _<_, _^_};
+ghost use Prim.Native.Nat.{_*_, _≤_, _<_, _^_};
 ghost use lib.Dec.{eqb};
 ghost use lib.ListN.{length};
 ghost use Rattle.bits.specs.Testbit.{bitLength};
@@ -11,6 +11,7 @@ use super::field::copy_field_limb;
 use super::field::field_limb;
 use super::field::reverse_limb;
 use super::field::rotate_limb;
+use super::logical::common_limb;
 use super::logical::if_limb;
 use super::logical::logical_limb;
 use super::result::Logic;
@@ -48,7 +49,7 @@ fn is_padding(low: u32, high: u32) -> bool
     }
 }
 
-// The length of the result's shortest form, from a number of limbs that is enough downwards.
+// The length of a result's shortest form, from a number of limbs that is enough downwards.
 fn measure_any(operation: Operation, x: &[u32], y: &[u32], z: &[u32], enough: usize) -> usize
     requires { ⌜ 0 < length (now x) ⌝ }
     requires { ⌜ 0 < length (now y) ⌝ }
@@ -70,8 +71,28 @@ fn measure_any(operation: Operation, x: &[u32], y: &[u32], z: &[u32], enough: us
     n
 }
 
-// The same for a logical operation.
-fn measure_logical(by: Logic, x: &[u32], y: &[u32], enough: usize) -> usize
+// The same for a logical operation on operands that have so many limbs.
+fn measure_common(by: Logic, x: &[u32], y: &[u32], enough: usize) -> usize
+    requires { ⌜ (enough ≤ length (now x)) × (enough ≤ length (now y)) ⌝ }
+    requires { ⌜ 0 < enough ⌝ }
+    requires { ⌜ bitLength (bitwise (logicOf by) (value (now x)) (value (now y))) < 32 * enough ⌝ }
+    ensures { λ r. ⌜ r ≡ limbCount (bitwise (logicOf by) (value (now (x .entry))) (value (now (y .entry)))) ⌝ }
+{
+    let mut n = enough;
+    let mut high = common_limb(by, x, y, n - 1);
+    while 1 < n {
+        let low = common_limb(by, x, y, n - 2);
+        if !is_padding(low, high) {
+            return n;
+        }
+        high = low;
+        n -= 1;
+    }
+    n
+}
+
+// The same for a logical operation on any operands.
+fn measure_padded(by: Logic, x: &[u32], y: &[u32], enough: usize) -> usize
     requires { ⌜ 0 < length (now x) ⌝ }
     requires { ⌜ 0 < length (now y) ⌝ }
     requires { ⌜ 0 < enough ⌝ }
@@ -91,7 +112,21 @@ fn measure_logical(by: Logic, x: &[u32], y: &[u32], enough: usize) -> usize
     n
 }
 
-// The same; one limb is the least.
+fn measure_logical(by: Logic, x: &[u32], y: &[u32], enough: usize) -> usize
+    requires { ⌜ 0 < length (now x) ⌝ }
+    requires { ⌜ 0 < length (now y) ⌝ }
+    requires { ⌜ 0 < enough ⌝ }
+    requires { ⌜ bitLength (bitwise (logicOf by) (value (now x)) (value (now y))) < 32 * enough ⌝ }
+    ensures { λ r. ⌜ r ≡ limbCount (bitwise (logicOf by) (value (now (x .entry))) (value (now (y .entry)))) ⌝ }
+{
+    if enough <= x.len() && enough <= y.len() {
+        measure_common(by, x, y, enough)
+    } else {
+        measure_padded(by, x, y, enough)
+    }
+}
+
+// The same for any operation; one limb is the least.
 pub fn measure(operation: Operation, x: &[u32], y: &[u32], z: &[u32], enough: usize) -> usize
     requires { ⌜ 0 < length (now x) ⌝ }
     requires { ⌜ 0 < length (now y) ⌝ }

@@ -1,12 +1,12 @@
--- `limbwords::measure::measure_logical` meets its contract, turn by turn. Assumes nothing.
+-- `limbwords::measure::measure_padded` meets its contract, turn by turn. Assumes nothing.
 use native.Mathlib.Omega.{arith}
 use borrow.Author.Needs.{needs}
 use Rattle.bits.specs.Logical.{bitwise}
 use Rattle.limbwords.specs.Value.{value}
 use Rattle.limbwords.specs.Results.{logicOf}
 use Rattle.limbwords.proofs.MeasureLaws.{Enough, one-less, counted, counted-one}
-use Rattle.limbwords.proofs.measure.measure_logical.Statement.{statement}
-use Rattle.limbwords.proofs.measure.measure_logical.Tie as tie
+use Rattle.limbwords.proofs.measure.measure_padded.Statement.{statement}
+use Rattle.limbwords.proofs.measure.measure_padded.Tie as tie
 
 abbrev Inv-loop : tie.InvT-loop
 Inv-loop by x y enough n₀ high₀ n high = Enough (bitwise (logicOf by) (value x) (value y)) n high
@@ -53,8 +53,8 @@ loop-again c =
 returns-2 : tie.Need-returns-2 Inv-loop μ-loop
 returns-2 c = let l = c .before .loop in counted-one _ (l .n) (omega (arith, l .inv .some)) (l .inv .size)
 
-pub measure-logical-spec : {M : Type 1} → statement M
-measure-logical-spec =
+pub measure-padded-spec : {M : Type 1} → statement M
+measure-padded-spec =
     tie.close
     (tie.spec
     Inv-loop
