@@ -71,7 +71,7 @@ fn measure_any(operation: Operation, x: &[u32], y: &[u32], z: &[u32], enough: us
     n
 }
 
-// The same for a logical operation on operands that have so many limbs.
+// The same for a logical operation, where both operands have so many limbs.
 fn measure_common(by: Logic, x: &[u32], y: &[u32], enough: usize) -> usize
     requires { ⌜ (enough ≤ length (now x)) × (enough ≤ length (now y)) ⌝ }
     requires { ⌜ 0 < enough ⌝ }
@@ -91,7 +91,7 @@ fn measure_common(by: Logic, x: &[u32], y: &[u32], enough: usize) -> usize
     n
 }
 
-// The same for a logical operation on any operands.
+// The same, where an operand may have fewer.
 fn measure_padded(by: Logic, x: &[u32], y: &[u32], enough: usize) -> usize
     requires { ⌜ 0 < length (now x) ⌝ }
     requires { ⌜ 0 < length (now y) ⌝ }
@@ -112,6 +112,7 @@ fn measure_padded(by: Logic, x: &[u32], y: &[u32], enough: usize) -> usize
     n
 }
 
+// The same for any operands.
 fn measure_logical(by: Logic, x: &[u32], y: &[u32], enough: usize) -> usize
     requires { ⌜ 0 < length (now x) ⌝ }
     requires { ⌜ 0 < length (now y) ⌝ }
