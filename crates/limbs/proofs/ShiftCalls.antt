@@ -1,6 +1,6 @@
 -- The shifts of an operand: a distance of 32,768 is as good as any beyond it, and what a signed distance comes to. A signed word as two limbs.
 -- Assumes nothing.
-use Prim.Native.Nat.{ℕ, zero, suc, _+_, _*_, _/_, _^_, _≤_, _<_}
+use Prim.Native.Nat.{ℕ, zero, suc, _+_, _*_, _-_, _/_, _^_, _≤_, _<_}
 use native.Mathlib.Omega.{arith}
 use mathlib.Core.Path.{_≡_, refl, sym, ap, ap₂, _∙_, subst}
 use mathlib.Core.Bool.{true, cond}
@@ -13,15 +13,15 @@ use borrow.Author.Tests.{le-leb, lt-leb}
 use Rattle.bits.specs.Testbit.{bitLength}
 use Rattle.bits.specs.Shift.{shiftLeft, shiftRight, arithmeticShift}
 use Rattle.bits.specs.Division.{modℕ}
-use Rattle.bits.proofs.TestbitLaws.{by-lt}
+use Rattle.bits.proofs.TestbitLaws.{by-lt, testbit-above, testbit-shiftRight, isNegative-shiftRight}
 use Rattle.bits.proofs.ShiftLaws.{shiftRight-zero, shiftLeft-zero-l}
-use Rattle.bits.proofs.LengthLaws.{bitLength-le}
+use Rattle.bits.proofs.LengthLaws.{bitLength-le, bitLength-least-bits}
 use Rattle.limbwords.specs.Value.{value, bitsFrom, limbsOf, limbCount}
 use Rattle.limbs.specs.Buffer.{refused, integer, unless}
 use Rattle.limbs.specs.Inner.{Decides}
 use Rattle.limbs.specs.Operations.{mostLimbs, isOperand, operand, sized}
 use Rattle.limbwords.proofs.ValueLaws.{pos-injective, value-length, value-limbsOf, limbCount-le}
-use Rattle.bits.proofs.LengthBounds.{shiftRight-length, shiftRight-beyond, shiftLeft-length, shiftLeft-length-exact}
+use Rattle.bits.proofs.LengthBounds.{shiftRight-beyond, shiftLeft-length, shiftLeft-length-exact}
 use Rattle.limbs.proofs.OutcomeLaws.{passed, failed, stage-passed}
 use Rattle.limbs.proofs.NumberLaws.{operand-lengths}
 use Rattle.limbs.proofs.StageLaws.{none-refused, operand-legal}
@@ -77,9 +77,13 @@ module _ (xs : List ℕ) (legal : isOperand xs ≡ true) where
   pub legal-lengths : (0 < length xs) × (length xs ≤ 1024)
   legal-lengths = operand-lengths xs (sym legal) refl
 
-  -- a right shift needs no more limbs
-  pub right-enough : (k : ℕ) → bitLength (shiftRight (value xs) k) < 32 * length xs
-  right-enough k = omega (arith, shiftRight-length (value xs) k, value-length xs (legal-lengths .0))
+  -- a right shift needs no limbs for those that it drops whole
+  pub right-enough : (k m : ℕ) → 0 < m → length xs ≤ m + k / 32 → bitLength (shiftRight (value xs) k) < 32 * m
+  right-enough k m p h =
+      let v = value-length xs (legal-lengths .0) in
+      let l = bitLength-least-bits (shiftRight (value xs) k) (32 * m - 1) (λ i q.
+      testbit-shiftRight (value xs) k i ∙ testbit-above (value xs) (k + i) (omega arith) ∙ sym (isNegative-shiftRight (value xs) k)) in
+      omega arith
 
   pub left-enough : (k : ℕ) → bitLength (shiftLeft (value xs) k) < 32 * (length xs + k / 32 + 1)
   left-enough k = omega (arith, shiftLeft-length (value xs) k, value-length xs (legal-lengths .0))
@@ -92,7 +96,7 @@ module _ (xs : List ℕ) (legal : isOperand xs ≡ true) where
   pub shift-right : {d : ℤ} {r : ℕ} → d ≡ negsuc r → sized (arithmeticShift (value xs) d) ≡ integer (shiftRight (value xs) (r + 1))
   unfolding arithmeticShift
   shift-right {d} {r} e =
-      let l = limbCount-le (shiftRight (value xs) (r + 1)) (length xs) (right-enough (r + 1)) in
+      let l = limbCount-le (shiftRight (value xs) (r + 1)) (length xs) (right-enough (r + 1) (length xs) (legal-lengths .0) (omega arith)) in
       let n : suc r ≡ r + 1 = omega arith in
       ap (λ (d : ℤ). sized (arithmeticShift (value xs) d)) e
       ∙ ap (λ (k : ℕ). sized (shiftRight (value xs) k)) n

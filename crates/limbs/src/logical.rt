@@ -6,6 +6,7 @@ ghost use Rattle.limbwords.specs.Value.{value, limbAt};
 ghost use Rattle.limbs.specs.Inner.{Puts};
 ghost use Rattle.limbwords.specs.Results.{logicOf};
 use super::index::least;
+use limbwords::logical::choose;
 use limbwords::logical::combine;
 use limbwords::logical::if_limb;
 use limbwords::logical::logical_limb;
@@ -46,7 +47,19 @@ pub fn write_logical(by: Logic, x: &[u32], y: &[u32], to: usize, part: &mut [u32
     write_padded(by, x, y, common, to, part);
 }
 
-pub fn write_if(x: &[u32], y: &[u32], z: &[u32], from: usize, to: usize, part: &mut [u32])
+// Limbs that all three operands have.
+fn write_if_common(x: &[u32], y: &[u32], z: &[u32], to: usize, part: &mut [u32])
+    requires { ⌜ (to ≤ length (now x)) × (to ≤ length (now y)) × (to ≤ length (now z)) × (to ≤ length (now part)) ⌝ }
+    ensures { λ r. ⌜ Puts (limbAt (bitwiseIf (value (now (x .entry))) (value (now (y .entry))) (value (now (z .entry))))) (now (part .entry)) (now (part .exit)) 0 to ⌝ }
+{
+    let mut j = 0;
+    while j < to {
+        part[j] = choose(x[j], y[j], z[j]);
+        j += 1;
+    }
+}
+
+fn write_if_padded(x: &[u32], y: &[u32], z: &[u32], from: usize, to: usize, part: &mut [u32])
     requires { ⌜ (0 < length (now x)) × (0 < length (now y)) × (0 < length (now z)) ⌝ }
     requires { ⌜ (from ≤ to) × (to ≤ length (now part)) ⌝ }
     ensures { λ r. ⌜ Puts (limbAt (bitwiseIf (value (now (x .entry))) (value (now (y .entry))) (value (now (z .entry))))) (now (part .entry)) (now (part .exit)) from to ⌝ }
@@ -56,4 +69,14 @@ pub fn write_if(x: &[u32], y: &[u32], z: &[u32], from: usize, to: usize, part: &
         part[j] = if_limb(x, y, z, j);
         j += 1;
     }
+}
+
+pub fn write_if(x: &[u32], y: &[u32], z: &[u32], to: usize, part: &mut [u32])
+    requires { ⌜ (0 < length (now x)) × (0 < length (now y)) × (0 < length (now z)) ⌝ }
+    requires { ⌜ to ≤ length (now part) ⌝ }
+    ensures { λ r. ⌜ Puts (limbAt (bitwiseIf (value (now (x .entry))) (value (now (y .entry))) (value (now (z .entry))))) (now (part .entry)) (now (part .exit)) 0 to ⌝ }
+{
+    let common = least(to, least(x.len(), least(y.len(), z.len())));
+    write_if_common(x, y, z, common, part);
+    write_if_padded(x, y, z, common, to, part);
 }

@@ -1,7 +1,7 @@
 // The operations on operands that are legal, or that are tested here.
 ghost use mathlib.Core.Path.{_≡_};
 ghost use mathlib.Core.Bool.{true, cond};
-ghost use Prim.Native.Nat.{_+_, _*_, _-_, _%_, _≤_, _<_};
+ghost use Prim.Native.Nat.{_+_, _*_, _-_, _/_, _%_, _≤_, _<_};
 ghost use lib.Dec.{eqb, ltb};
 ghost use lib.IntN.{pos};
 ghost use lib.ListN.{length};
@@ -129,20 +129,25 @@ fn capped(by: u64) -> u64
     if by < MOST_BITS { by } else { MOST_BITS }
 }
 
+// How many limbs are enough for an operand that is shifted right.
+fn enough_right(x: &[u32], by: u64) -> usize
+    requires { ⌜ 0 < length (now x) ⌝ }
+    requires { ⌜ by ≤ 32768 ⌝ }
+    ensures { λ r. ⌜ ((0 < r) × (r ≤ length (now (x .entry)))) × (length (now (x .entry)) ≤ r + by / 32) ⌝ }
+{
+    let gone = (by / 32) as usize;
+    if gone < x.len() { x.len() - gone } else { 1 }
+}
+
 // A distance beyond every bit of an operand leaves its sign.
 pub fn move_right(x: &[u32], by: u64, out: &mut [u32], first: u64) -> Written
     requires { ⌜ isOperand (now x) ≡ true ⌝ }
     ensures { λ r. ⌜ Writes (integer (shiftRight (value (now (x .entry))) by)) (now (out .entry)) first r (now (out .exit)) ⌝ }
 {
-    run(
-        Operation::ShiftRight { by: capped(by) },
-        x,
-        x,
-        x,
-        x.len(),
-        out,
-        first,
-    )
+    let distance = capped(by);
+    let operation = Operation::ShiftRight { by: distance };
+    let enough = enough_right(x, distance);
+    run(operation, x, x, x, enough, out, first)
 }
 
 // A distance beyond the largest length moves everything but 0 past it.

@@ -19,8 +19,21 @@ pub fn put_zeros(from: usize, to: usize, part: &mut [u32])
     }
 }
 
-// Windows of x from bit k of limb i on, one for each limb, that lie in x.
-fn put_inner(x: &[u32], i: usize, k: u64, from: usize, to: usize, part: &mut [u32])
+// Limbs of x from limb i on, one for each limb.
+fn put_copied(x: &[u32], i: usize, from: usize, to: usize, part: &mut [u32])
+    requires { ⌜ (from ≤ to) × (to ≤ length (now part)) ⌝ }
+    requires { ⌜ to - from ≤ length (now x) - i ⌝ }
+    ensures { λ r. ⌜ Puts (λ j. bitsFrom (value (now (x .entry))) (32 * i + 32 * (j - from))) (now (part .entry)) (now (part .exit)) from to ⌝ }
+{
+    let mut j = from;
+    while j < to {
+        part[j] = x[i + (j - from)];
+        j += 1;
+    }
+}
+
+// Windows of x from bit k of limb i on, one for each limb, each joined from two limbs of x.
+fn put_joined(x: &[u32], i: usize, k: u64, from: usize, to: usize, part: &mut [u32])
     requires { ⌜ k < 32 ⌝ }
     requires { ⌜ (from ≤ to) × (to ≤ length (now part)) ⌝ }
     requires { ⌜ to - from ≤ length (now x) - (i + 1) ⌝ }
@@ -33,7 +46,21 @@ fn put_inner(x: &[u32], i: usize, k: u64, from: usize, to: usize, part: &mut [u3
     }
 }
 
-// The same, also past the last limb.
+// The same: where k is 0, the windows are limbs of x.
+fn put_inner(x: &[u32], i: usize, k: u64, from: usize, to: usize, part: &mut [u32])
+    requires { ⌜ k < 32 ⌝ }
+    requires { ⌜ (from ≤ to) × (to ≤ length (now part)) ⌝ }
+    requires { ⌜ to - from ≤ length (now x) - (i + 1) ⌝ }
+    ensures { λ r. ⌜ Puts (λ j. bitsFrom (value (now (x .entry))) (32 * i + k + 32 * (j - from))) (now (part .entry)) (now (part .exit)) from to ⌝ }
+{
+    if k == 0 {
+        put_copied(x, i, from, to, part);
+    } else {
+        put_joined(x, i, k, from, to, part);
+    }
+}
+
+// Windows of x from a position on, also past the last limb.
 fn put_outer(x: &[u32], at: u64, from: usize, to: usize, part: &mut [u32])
     requires { ⌜ (0 < length (now x)) × (at < 2 ^ 62) ⌝ }
     requires { ⌜ (from ≤ to) × (to ≤ length (now part)) ⌝ }

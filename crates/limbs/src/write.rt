@@ -218,7 +218,7 @@ pub fn write(operation: Operation, x: &[u32], y: &[u32], z: &[u32], n: usize, pa
 {
     match operation {
         Operation::Logical(by) => write_logical(by, x, y, n, part),
-        Operation::If => write_if(x, y, z, 0, n, part),
+        Operation::If => write_if(x, y, z, n, part),
         Operation::ShiftLeft { by } => write_shift_left(x, by, n, part),
         Operation::ShiftRight { by } => write_shift_right(x, by, n, part),
         Operation::Field { start, end } => write_field(x, start, end, n, part),

@@ -1,11 +1,13 @@
 -- The logical operations on limbs. Assumes nothing.
-use Prim.Native.Nat.{ℕ, suc, _+_, _-_, _^_, _<_}
+use Prim.Native.Nat.{ℕ, suc, _+_, _*_, _-_, _^_, _<_}
 use native.Mathlib.Nat.{zero-add}
 use native.Mathlib.Omega.{arith}
 use mathlib.Core.Path.{_≡_, sym, ap, ap₂, _∙_}
 use mathlib.Core.Bool.{Bool, not, _&&_, _||_}
+use mathlib.Core.List.{List}
 use lib.Bits.{bitAnd, bitOr, and-lt, or-lt}
 use lib.IntN.{ℤ, pos}
+use lib.ListN.{length, getD}
 use lib.Pow.{pow-pos}
 use Rattle.bits.specs.Testbit.{testbit}
 use Rattle.bits.specs.Logical.{bitwiseNot, bitwise, bitwiseAnd, bitwiseIor, bitwiseIf}
@@ -15,8 +17,8 @@ use Rattle.bits.proofs.ModLaws.{modℕ-not, modℕ-small}
 use Rattle.bits.proofs.ShiftLaws.{shiftRight-zero, shiftRight-not}
 use Rattle.bits.proofs.LogicalLaws.{testbit-not, testbit-bitwise}
 use Rattle.bits.proofs.Digitwise.{testbit-digitwise, and-digitwise, ior-digitwise}
-use Rattle.limbwords.specs.Value.{bitsFrom}
-use Rattle.limbwords.proofs.LimbLaws.{bitsFrom-lt, testbit-bitsFrom, word-ext}
+use Rattle.limbwords.specs.Value.{value, bitsFrom, limbAt}
+use Rattle.limbwords.proofs.LimbLaws.{bitsFrom-lt, testbit-bitsFrom, word-ext, limb-value}
 
 pub bitsFrom-not : (z : ℤ) (at : ℕ) → 4294967295 - bitsFrom z at ≡ bitsFrom (bitwiseNot z) at
 unfolding bitsFrom
@@ -42,6 +44,15 @@ bitsFrom-bitwise op x y at r h e =
     word-ext r (bitwise op x y) at h (λ t k.
     e t k ∙ ap₂ op (testbit-bitsFrom x at t k) (testbit-bitsFrom y at t k) ∙ sym (testbit-bitwise op x y (at + t)))
 
+-- the same of the limbs of two operands
+pub limb-bitwise : (op : Bool → Bool → Bool) (xs ys : List ℕ) (j : ℕ) {r : ℕ} → ((i : ℕ) → getD xs i 0 < 2 ^ 32) → ((i : ℕ) → getD ys i 0 < 2 ^ 32)
+    → j < length xs → j < length ys → r < 2 ^ 32
+    → ((t : ℕ) → t < 32 → testbit (pos r) t ≡ op (testbit (pos (getD xs j 0)) t) (testbit (pos (getD ys j 0)) t))
+    → r ≡ limbAt (bitwise op (value xs) (value ys)) j
+limb-bitwise op xs ys j {r} b c h k l e =
+    bitsFrom-bitwise op (value xs) (value ys) (32 * j) r l (λ t m.
+    e t m ∙ ap₂ (λ (p q : ℕ). op (testbit (pos p) t) (testbit (pos q) t)) (limb-value xs j b h) (limb-value ys j c k))
+
 -- and of two limbs, as a limb of the and
 pub bitsFrom-and : (x y : ℤ) (at : ℕ) → bitAnd (bitsFrom x at) (bitsFrom y at) ≡ bitsFrom (bitwiseAnd x y) at
 unfolding bitwiseAnd
@@ -55,9 +66,11 @@ bitsFrom-ior x y at =
     bitsFrom-bitwise _||_ x y at _ (or-lt 32 (bitsFrom x at) (bitsFrom y at) (bitsFrom-lt x at) (bitsFrom-lt y at))
     (λ t k. testbit-digitwise ior-digitwise t (bitsFrom x at) (bitsFrom y at))
 
-pub bitsFrom-if : (x y z : ℤ) (at : ℕ)
-    → bitOr (bitAnd (bitsFrom x at) (bitsFrom y at)) (bitAnd (4294967295 - bitsFrom x at) (bitsFrom z at)) ≡ bitsFrom (bitwiseIf x y z) at
+-- a choice between two limbs, as a limb of the choice
+pub bitsFrom-if : (x y z : ℤ) (at : ℕ) {m a b : ℕ} → m ≡ bitsFrom x at → a ≡ bitsFrom y at → b ≡ bitsFrom z at
+    → bitOr (bitAnd m a) (bitAnd (4294967295 - m) b) ≡ bitsFrom (bitwiseIf x y z) at
 unfolding bitwiseIf
-bitsFrom-if x y z at =
-    ap₂ bitOr (bitsFrom-and x y at) (ap (λ (n : ℕ). bitAnd n (bitsFrom z at)) (bitsFrom-not x at) ∙ bitsFrom-and (bitwiseNot x) z at)
-    ∙ bitsFrom-ior (bitwiseAnd x y) (bitwiseAnd (bitwiseNot x) z) at
+bitsFrom-if x y z at p q r =
+    rw (p, q, r)
+    (ap₂ bitOr (bitsFrom-and x y at) (ap (λ (n : ℕ). bitAnd n (bitsFrom z at)) (bitsFrom-not x at) ∙ bitsFrom-and (bitwiseNot x) z at)
+    ∙ bitsFrom-ior (bitwiseAnd x y) (bitwiseAnd (bitwiseNot x) z) at)

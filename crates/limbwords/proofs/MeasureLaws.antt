@@ -3,14 +3,14 @@ use Prim.Native.Nat.{ℕ, _+_, _*_, _-_, _/_, _≤_, _<_}
 use native.Mathlib.Omega.{arith}
 use mathlib.Core.Path.{_≡_, refl, sym, ap, _∙_}
 use mathlib.Core.Bool.{Bool, true, false, cond, not}
-use lib.Dec.{ltb, lit<}
+use lib.Dec.{eqb, ltb, lit<}
 use lib.IntN.{ℤ, pos}
-use borrow.Author.Tests.{lt-ltb, ltb-true, ltb-false}
+use borrow.Author.Tests.{not-true, not-false, lt-ltb, ltb-true, ltb-false, eqb-true, eqb-false}
 use Rattle.bits.specs.Testbit.{isNegative, testbit, bitLength, fill}
 use Rattle.bits.proofs.TestbitLaws.{testbit-above, testbit-fill}
 use Rattle.bits.proofs.ValueLaws.{testbit-mask}
 use Rattle.bits.proofs.LengthLaws.{bitLength-least-bits}
-use Rattle.limbwords.specs.Value.{bitsFrom, limbCount}
+use Rattle.limbwords.specs.Value.{bitsFrom, limbAt, limbCount}
 use Rattle.limbwords.specs.Results.{continued}
 use Rattle.limbwords.proofs.LimbLaws.{bitsFrom-lt, testbit-bitsFrom, bitsFrom-above, top-bit}
 
@@ -36,7 +36,7 @@ module _ (z : ℤ) (k : ℕ) where
 
 module _ (z : ℤ) (k : ℕ) (h : bitLength z < 32 * (k + 2)) where
   -- the top limb continues the one below it: it can go
-  pub shorter : bitsFrom z (32 * (k + 1)) ≡ continued (bitsFrom z (32 * k)) → bitLength z < 32 * (k + 1)
+  shorter : bitsFrom z (32 * (k + 1)) ≡ continued (bitsFrom z (32 * k)) → bitLength z < 32 * (k + 1)
   shorter e = omega (arith, bitLength-least-bits z (32 * k + 31) each)
     where
       sign : testbit z (32 * k + 31) ≡ isNegative z
@@ -63,7 +63,7 @@ module _ (z : ℤ) (k : ℕ) (h : bitLength z < 32 * (k + 2)) where
       ∙ ap (λ (s : Bool). cond s 0xFFFFFFFF 0) (sym (testbit-above z (32 * k + 31) (omega arith)) ∙ top z k)
 
   -- the top limb does not continue the one below it: the length is settled
-  pub settled : (bitsFrom z (32 * (k + 1)) ≡ continued (bitsFrom z (32 * k)) → ⊥) → limbCount z ≡ k + 2
+  settled : (bitsFrom z (32 * (k + 1)) ≡ continued (bitsFrom z (32 * k)) → ⊥) → limbCount z ≡ k + 2
   unfolding limbCount
   settled e = go (ltb (bitLength z) (32 * (k + 1))) refl
     where
@@ -72,7 +72,7 @@ module _ (z : ℤ) (k : ℕ) (h : bitLength z < 32 * (k + 2)) where
       go false q = omega (arith, ltb-false (bitLength z) (32 * (k + 1)) q)
 
 -- one limb is the least
-pub settled-one : (z : ℤ) → bitLength z < 32 * 1 → limbCount z ≡ 1
+settled-one : (z : ℤ) → bitLength z < 32 * 1 → limbCount z ≡ 1
 unfolding limbCount
 settled-one z h = omega arith
 
@@ -90,8 +90,35 @@ module _ (z : ℤ) (n : ℕ) (p : 1 < n) (h : bitLength z < 32 * n) where
   top-limb : (m : ℕ) → bitsFrom z (32 * (n - 1)) ≡ m → bitsFrom z (32 * (n - 2 + 1)) ≡ m
   top-limb m e = ap (λ (k : ℕ). bitsFrom z (32 * k)) one ∙ e
 
-  pub shorter-by-one : bitsFrom z (32 * (n - 1)) ≡ continued (bitsFrom z (32 * (n - 2))) → bitLength z < 32 * (n - 1)
+  shorter-by-one : bitsFrom z (32 * (n - 1)) ≡ continued (bitsFrom z (32 * (n - 2))) → bitLength z < 32 * (n - 1)
   shorter-by-one e = omega (arith, one, shorter z (n - 2) enough (top-limb _ e))
 
-  pub settled-at : (bitsFrom z (32 * (n - 1)) ≡ continued (bitsFrom z (32 * (n - 2))) → ⊥) → n ≡ limbCount z
+  settled-at : (bitsFrom z (32 * (n - 1)) ≡ continued (bitsFrom z (32 * (n - 2))) → ⊥) → n ≡ limbCount z
   settled-at e = sym (settled z (n - 2) enough (λ q. e (ap (λ (k : ℕ). bitsFrom z (32 * k)) (sym one) ∙ q)) ∙ two)
+
+-- ---- what is so at each turn of measuring: n limbs are enough, and `high` is the last of them
+
+pub record Enough (z : ℤ) (n high : ℕ) : Type 0 where
+  pub some : 0 < n
+  pub size : bitLength z < 32 * n
+  pub last : high ≡ limbAt z (n - 1)
+
+-- the contract of the code's `is_padding`, of the last limb and the limb below it
+module _ {z : ℤ} {n high low : ℕ} {padding : Bool} (e : Enough z n high) (p : 1 < n) (below : low ≡ limbAt z (n - 2)) (test : padding ≡ eqb high (continued low)) where
+  tested : padding ≡ eqb (limbAt z (n - 1)) (continued (limbAt z (n - 2)))
+  tested = cc (test, below, e .last)
+
+  pub one-less : not padding ≡ false → Enough z (n - 1) low
+  one-less q =
+      let same : n - 2 ≡ n - 1 - 1 = omega arith in
+      record {
+        some = omega arith;
+        size = shorter-by-one z n p (e .size) (eqb-true _ _ (sym tested ∙ not-false _ q));
+        last = below ∙ ap (limbAt z) same;
+      }
+
+  pub counted : not padding ≡ true → n ≡ limbCount z
+  counted q = settled-at z n p (e .size) (eqb-false _ _ (sym tested ∙ not-true _ q))
+
+pub counted-one : (z : ℤ) (n : ℕ) → n ≡ 1 → bitLength z < 32 * n → n ≡ limbCount z
+counted-one z n e h = e ∙ sym (settled-one z (omega arith))

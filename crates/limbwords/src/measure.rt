@@ -1,17 +1,20 @@
 // The limbs of a described result at any index, and how many it needs.
 ghost use mathlib.Core.Path.{_≡_};
-ghost use Prim.Native.Nat.{_*_, _<_, _^_};
+ghost use Prim.Native.Nat.{_*_, _≤_, _<_, _^_};
 ghost use lib.Dec.{eqb};
 ghost use lib.ListN.{length};
 ghost use Rattle.bits.specs.Testbit.{bitLength};
+ghost use Rattle.bits.specs.Logical.{bitwise};
 ghost use Rattle.limbwords.specs.Value.{value, limbAt, limbCount};
-ghost use Rattle.limbwords.specs.Results.{meaning, Proper, continued};
+ghost use Rattle.limbwords.specs.Results.{logicOf, meaning, Proper, continued};
 use super::field::copy_field_limb;
 use super::field::field_limb;
 use super::field::reverse_limb;
 use super::field::rotate_limb;
+use super::logical::common_limb;
 use super::logical::if_limb;
 use super::logical::logical_limb;
+use super::result::Logic;
 use super::result::Operation;
 use super::shift::shift_left_limb;
 use super::shift::shift_right_limb;
@@ -46,8 +49,8 @@ fn is_padding(low: u32, high: u32) -> bool
     }
 }
 
-// The length of the result's shortest form, from a number of limbs that is enough downwards.
-pub fn measure(operation: Operation, x: &[u32], y: &[u32], z: &[u32], enough: usize) -> usize
+// The length of a result's shortest form, from a number of limbs that is enough downwards.
+fn measure_any(operation: Operation, x: &[u32], y: &[u32], z: &[u32], enough: usize) -> usize
     requires { ⌜ 0 < length (now x) ⌝ }
     requires { ⌜ 0 < length (now y) ⌝ }
     requires { ⌜ 0 < length (now z) ⌝ }
@@ -56,13 +59,88 @@ pub fn measure(operation: Operation, x: &[u32], y: &[u32], z: &[u32], enough: us
     ensures { λ r. ⌜ r ≡ limbCount (meaning operation (value (now (x .entry))) (value (now (y .entry))) (value (now (z .entry)))) ⌝ }
 {
     let mut n = enough;
+    let mut high = limb_of(operation, x, y, z, n - 1);
     while 1 < n {
         let low = limb_of(operation, x, y, z, n - 2);
-        let high = limb_of(operation, x, y, z, n - 1);
         if !is_padding(low, high) {
             return n;
         }
+        high = low;
         n -= 1;
     }
     n
+}
+
+// The same for a logical operation, where both operands have so many limbs.
+fn measure_common(by: Logic, x: &[u32], y: &[u32], enough: usize) -> usize
+    requires { ⌜ (enough ≤ length (now x)) × (enough ≤ length (now y)) ⌝ }
+    requires { ⌜ 0 < enough ⌝ }
+    requires { ⌜ bitLength (bitwise (logicOf by) (value (now x)) (value (now y))) < 32 * enough ⌝ }
+    ensures { λ r. ⌜ r ≡ limbCount (bitwise (logicOf by) (value (now (x .entry))) (value (now (y .entry)))) ⌝ }
+{
+    let mut n = enough;
+    let mut high = common_limb(by, x, y, n - 1);
+    while 1 < n {
+        let low = common_limb(by, x, y, n - 2);
+        if !is_padding(low, high) {
+            return n;
+        }
+        high = low;
+        n -= 1;
+    }
+    n
+}
+
+// The same, where an operand may have fewer.
+fn measure_padded(by: Logic, x: &[u32], y: &[u32], enough: usize) -> usize
+    requires { ⌜ 0 < length (now x) ⌝ }
+    requires { ⌜ 0 < length (now y) ⌝ }
+    requires { ⌜ 0 < enough ⌝ }
+    requires { ⌜ bitLength (bitwise (logicOf by) (value (now x)) (value (now y))) < 32 * enough ⌝ }
+    ensures { λ r. ⌜ r ≡ limbCount (bitwise (logicOf by) (value (now (x .entry))) (value (now (y .entry)))) ⌝ }
+{
+    let mut n = enough;
+    let mut high = logical_limb(by, x, y, n - 1);
+    while 1 < n {
+        let low = logical_limb(by, x, y, n - 2);
+        if !is_padding(low, high) {
+            return n;
+        }
+        high = low;
+        n -= 1;
+    }
+    n
+}
+
+// The same for any operands.
+fn measure_logical(by: Logic, x: &[u32], y: &[u32], enough: usize) -> usize
+    requires { ⌜ 0 < length (now x) ⌝ }
+    requires { ⌜ 0 < length (now y) ⌝ }
+    requires { ⌜ 0 < enough ⌝ }
+    requires { ⌜ bitLength (bitwise (logicOf by) (value (now x)) (value (now y))) < 32 * enough ⌝ }
+    ensures { λ r. ⌜ r ≡ limbCount (bitwise (logicOf by) (value (now (x .entry))) (value (now (y .entry)))) ⌝ }
+{
+    if enough <= x.len() && enough <= y.len() {
+        measure_common(by, x, y, enough)
+    } else {
+        measure_padded(by, x, y, enough)
+    }
+}
+
+// The same for any operation; one limb is the least.
+pub fn measure(operation: Operation, x: &[u32], y: &[u32], z: &[u32], enough: usize) -> usize
+    requires { ⌜ 0 < length (now x) ⌝ }
+    requires { ⌜ 0 < length (now y) ⌝ }
+    requires { ⌜ 0 < length (now z) ⌝ }
+    requires { ⌜ Proper operation × ((0 < enough) × (enough < 2 ^ 32)) ⌝ }
+    requires { ⌜ bitLength (meaning operation (value (now x)) (value (now y)) (value (now z))) < 32 * enough ⌝ }
+    ensures { λ r. ⌜ r ≡ limbCount (meaning operation (value (now (x .entry))) (value (now (y .entry))) (value (now (z .entry)))) ⌝ }
+{
+    if enough == 1 {
+        return 1;
+    }
+    match operation {
+        Operation::Logical(by) => measure_logical(by, x, y, enough),
+        _ => measure_any(operation, x, y, z, enough),
+    }
 }

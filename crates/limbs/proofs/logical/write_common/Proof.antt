@@ -1,15 +1,11 @@
 -- `limbs::logical::write_common` meets its contract, turn by turn. Assumes nothing.
-use Prim.Native.Nat.{ℕ, _-_, _*_}
+use Prim.Native.Nat.{_-_}
 use native.Mathlib.Omega.{arith}
-use mathlib.Core.Path.{ap₂, _∙_}
-use lib.IntN.{pos}
 use borrow.Author.Needs.{needs}
-use Rattle.bits.specs.Testbit.{testbit}
 use Rattle.bits.specs.Logical.{bitwise}
 use Rattle.limbwords.specs.Value.{value, limbAt}
 use Rattle.limbwords.specs.Results.{logicOf}
-use Rattle.limbwords.proofs.LimbLaws.{limb-value}
-use Rattle.limbwords.proofs.LogicalLaws.{bitsFrom-bitwise}
+use Rattle.limbwords.proofs.LogicalLaws.{limb-bitwise}
 use Rattle.limbs.proofs.BufferLaws.{Turn, turn-none, turn-more, turn-all}
 use Rattle.limbs.proofs.logical.write_common.Statement.{statement}
 use Rattle.limbs.proofs.logical.write_common.Tie as tie
@@ -54,11 +50,9 @@ loop-again : tie.Need-loop-again Inv-loop μ-loop
 loop-again c =
     let a = c .before .before .before .before .before .before .before .before in
     let j = c .before .before .before .before .loop .j in
-    let x = limb-value (a .args .x .now) j (λ i. c .before .before .shared-slice-known3 .given i .fits) (omega arith) in
-    let y = limb-value (a .args .y .now) j (λ i. c .before .shared-slice-known4 .given i .fits) (omega arith) in
     turn-more _ (c .before .before .before .before .loop .inv)
-    (bitsFrom-bitwise (logicOf (a .args .by)) (value (a .args .x .now)) (value (a .args .y .now)) (32 * j) (c .combine .result) (c .combine .ok) (λ t k.
-    c .combine .ensures t k ∙ ap₂ (λ (m n : ℕ). logicOf (a .args .by) (testbit (pos m) t) (testbit (pos n) t)) x y))
+    (limb-bitwise (logicOf (a .args .by)) (a .args .x .now) (a .args .y .now) j (λ i. c .before .before .shared-slice-known3 .given i .fits)
+    (λ i. c .before .shared-slice-known4 .given i .fits) (omega arith) (omega arith) (c .combine .ok) (c .combine .ensures))
     (c .before .before .before .loop-test .taken) (omega arith)
 
 same-length : tie.Need-same-length Inv-loop μ-loop

@@ -1,57 +1,41 @@
--- `limbs::logical::write_if` meets its contract, turn by turn. Assumes nothing.
-use Prim.Native.Nat.{_-_}
+-- `limbs::logical::write_if` meets its contract: the second writer goes on where the first ends. Assumes nothing.
 use native.Mathlib.Omega.{arith}
-use Rattle.bits.specs.Logical.{bitwiseIf}
-use Rattle.limbwords.specs.Value.{value, limbAt}
-use Rattle.limbs.proofs.BufferLaws.{Turn, turn-none, turn-more, turn-all}
+use Rattle.limbs.proofs.BufferLaws.{puts-join}
+use borrow.Author.Needs.{needs}
 use Rattle.limbs.proofs.logical.write_if.Statement.{statement}
 use Rattle.limbs.proofs.logical.write_if.Tie as tie
 
-abbrev Inv-loop : tie.InvT-loop
-Inv-loop x y z from to part₀ j₀ part j = Turn (limbAt (bitwiseIf (value x) (value y) (value z))) part₀ part from to j
+least-requires : tie.Need-least-requires
+least-requires c κs = search needs
 
-abbrev μ-loop : tie.MeasureT-loop
-μ-loop x y z from to part₀ j₀ part j = to - j
+least-requires-2 : tie.Need-least-requires-2
+least-requires-2 c κs = search needs
 
-loop-holds : tie.Need-loop-holds Inv-loop μ-loop
-loop-holds c = turn-none _ _ _ _ (omega arith)
+least-requires-3 : tie.Need-least-requires-3
+least-requires-3 c κs = search needs
 
-if-limb-requires : tie.Need-if-limb-requires Inv-loop μ-loop
-if-limb-requires c κs = omega arith
+write-if-common-requires : tie.Need-write-if-common-requires
+write-if-common-requires c κs = search needs
 
-mul-part : tie.Need-mul-part Inv-loop μ-loop
-mul-part c = omega arith
+write-if-padded-requires : tie.Need-write-if-padded-requires
+write-if-padded-requires c κs = search needs
 
-slice-write-part : tie.Need-slice-write-part Inv-loop μ-loop
-slice-write-part c = omega arith
+same-length : tie.Need-same-length
+same-length c = search needs
 
-add-j : tie.Need-add-j Inv-loop μ-loop
-add-j c = omega arith
-
-loop-less : tie.Need-loop-less Inv-loop μ-loop
-loop-less c = omega arith
-
-loop-again : tie.Need-loop-again Inv-loop μ-loop
-loop-again c = turn-more _ (c .before .before .loop .inv) (c .if-limb .ensures) (c .before .loop-test .taken) (omega arith)
-
-same-length : tie.Need-same-length Inv-loop μ-loop
-same-length c = c .before .loop .inv .so-far .size
-
-returns : tie.Need-returns Inv-loop μ-loop
-returns c = turn-all (c .before .loop .inv) (c .loop-test .left)
+returns : tie.Need-returns
+returns c =
+    puts-join (c .before .before .before .before .before .before .write-if-common .ensures) (c .before .before .write-if-padded .ensures) (omega arith)
+    (c .before .before .before .before .before .before .before .before .least3 .ensures .0)
 
 pub write-if-spec : {M : Type 1} → statement M
 write-if-spec =
     tie.close
     (tie.spec
-    Inv-loop
-    μ-loop
-    loop-holds
-    if-limb-requires
-    mul-part
-    slice-write-part
-    add-j
-    loop-less
-    loop-again
+    least-requires
+    least-requires-2
+    least-requires-3
+    write-if-common-requires
+    write-if-padded-requires
     same-length
     returns)

@@ -12,13 +12,19 @@ use Rattle.limbs.proofs.operand.move_right.Tie as tie
 capped-requires : tie.Need-capped-requires
 capped-requires c κs = search needs
 
+enough-right-requires : tie.Need-enough-right-requires
+enough-right-requires c κs =
+    let a = c .before .before .before in
+    (legal-lengths _ (a .pre) .0, capped-le (a .args .by) (c .capped .ensures))
+
 run-requires : tie.Need-run-requires
 unfolding meaning Proper
 run-requires c κs =
-    let a = c .before .before .before .before in
+    let a = c .before .before .before .before .before in
     let n = legal-lengths _ (a .pre) in
-    let r = capped-le (a .args .by) (c .before .capped .ensures) in
-    (n .0, (n .0, (n .0, ((omega arith, (n .0, omega (arith, n .1))), right-enough _ (a .pre) _))))
+    let r = capped-le (a .args .by) (c .before .before .capped .ensures) in
+    let e = c .before .enough-right .ensures in
+    (n .0, (n .0, (n .0, ((omega arith, (e .0 .0, omega (arith, n .1))), right-enough _ (a .pre) _ _ (e .0 .0) (e .1)))))
 
 same-length : tie.Need-same-length
 same-length c = search needs
@@ -26,8 +32,8 @@ same-length c = search needs
 returns : tie.Need-returns
 unfolding meaning
 returns c =
-    let a = c .before .before .before .before .before .before .before in
-    writes-as (ap integer (capped-right _ (a .pre) (a .args .by) (c .before .before .before .before .capped .ensures))) (c .before .before .run .ensures)
+    let a = c .before .before .before .before .before .before .before .before in
+    writes-as (ap integer (capped-right _ (a .pre) (a .args .by) (c .before .before .before .before .before .capped .ensures))) (c .before .before .run .ensures)
 
 pub move-right-spec : {M : Type 1} → statement M
-move-right-spec = tie.close (tie.spec capped-requires run-requires same-length returns)
+move-right-spec = tie.close (tie.spec capped-requires enough-right-requires run-requires same-length returns)

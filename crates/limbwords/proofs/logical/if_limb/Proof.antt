@@ -1,5 +1,6 @@
 -- `limbwords::logical::if_limb` meets its contract. Assumes nothing.
-use Prim.Native.Nat.{_*_, _-_}
+use Prim.Native.Nat.{_*_}
+use mathlib.Core.Path.{_∙_}
 use Rattle.limbwords.specs.Value.{value}
 use Rattle.limbwords.proofs.LogicalLaws.{bitsFrom-if}
 use borrow.Author.Needs.{needs}
@@ -15,11 +16,15 @@ limb-requires-2 c κs = search needs
 limb-requires-3 : tie.Need-limb-requires-3
 limb-requires-3 c κs = search needs
 
+choose-requires : tie.Need-choose-requires
+choose-requires c κs = search needs
+
 returns : tie.Need-returns
 returns c =
-    let a = c .before .before .before .before .before .before in
-    rw (c .before .before .limb .ensures, c .before .limb2 .ensures, c .limb3 .ensures)
-    (bitsFrom-if (value (a .args .x .now)) (value (a .args .y .now)) (value (a .args .z .now)) (32 * a .args .j))
+    let a = c .before .before .before .before .before .before .before in
+    c .choose .ensures
+    ∙ bitsFrom-if (value (a .args .x .now)) (value (a .args .y .now)) (value (a .args .z .now)) (32 * a .args .j) (c .before .before .before .limb .ensures)
+    (c .before .before .limb2 .ensures) (c .before .limb3 .ensures)
 
 pub if-limb-spec : {M : Type 1} → statement M
-if-limb-spec = tie.close (tie.spec limb-requires limb-requires-2 limb-requires-3 returns)
+if-limb-spec = tie.close (tie.spec limb-requires limb-requires-2 limb-requires-3 choose-requires returns)

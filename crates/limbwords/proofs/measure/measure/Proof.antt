@@ -1,89 +1,44 @@
--- `limbwords::measure::measure` meets its contract. The invariant: n limbs are enough. Assumes nothing.
-use Prim.Native.Nat.{ℕ, _*_, _-_, _^_, _<_}
-use native.Mathlib.Omega.{arith}
+-- `limbwords::measure::measure` meets its contract. Assumes nothing.
+use Prim.Native.Nat.{_*_, _<_}
 use mathlib.Core.Path.{_≡_, sym, subst, _∙_}
-use lib.Dec.{eqb}
-use borrow.Author.Needs.{needs}
-use borrow.Author.Tests.{not-true, not-false, eqb-true, eqb-false}
+use lib.IntN.{ℤ}
 use Rattle.bits.specs.Testbit.{bitLength}
-use Rattle.limbwords.specs.Value.{value, bitsFrom}
-use Rattle.limbwords.specs.Results.{meaning, continued}
-use Rattle.limbwords.proofs.MeasureLaws.{shorter-by-one, settled-at, settled-one}
+use Rattle.limbwords.specs.declared.result.Operation.{Operation}
+use Rattle.limbwords.specs.Value.{limbCount}
+use Rattle.limbwords.specs.Results.{meaning}
+use Rattle.limbwords.proofs.MeasureLaws.{counted-one}
+use borrow.Author.Needs.{needs}
 use Rattle.limbwords.proofs.measure.measure.Statement.{statement}
 use Rattle.limbwords.proofs.measure.measure.Tie as tie
 
-abbrev Inv-loop : tie.InvT-loop
-Inv-loop operation x y z enough n₀ n = ((0 < n) × (n < 2 ^ 32)) × (bitLength (meaning operation (value x) (value y) (value z)) < 32 * n)
-
-abbrev μ-loop : tie.MeasureT-loop
-μ-loop operation x y z enough n₀ n = n
-
-loop-holds : tie.Need-loop-holds Inv-loop μ-loop
-loop-holds c = let p = c .before .before .before .pre .1 .1 .1 in (p .0 .1, p .1)
-
-sub-limb-of : tie.Need-sub-limb-of Inv-loop μ-loop
-sub-limb-of c = omega arith
-
-limb-of-requires : tie.Need-limb-of-requires Inv-loop μ-loop
-limb-of-requires c κs =
-    let p = c .before .before .before .before .before .pre in
-    (p .0, (p .1 .0, (p .1 .1 .0, (p .1 .1 .1 .0 .0, omega arith))))
-
-sub-limb-of-2 : tie.Need-sub-limb-of-2 Inv-loop μ-loop
-sub-limb-of-2 c = omega arith
-
-limb-of-requires-2 : tie.Need-limb-of-requires-2 Inv-loop μ-loop
-limb-of-requires-2 c κs =
-    let p = c .before .before .before .before .before .before .pre in
-    (p .0, (p .1 .0, (p .1 .1 .0, (p .1 .1 .1 .0 .0, omega arith))))
-
-is-padding-requires : tie.Need-is-padding-requires Inv-loop μ-loop
-is-padding-requires c κs = search needs
-
--- the test of the top limb, as it says it of the result
-tested : (c : tie.After-is-padding Inv-loop μ-loop) → let a = c .before .before .before .before .before .before .before .before in
-    let w = meaning (a .args .operation) (value (a .args .x .now)) (value (a .args .y .now)) (value (a .args .z .now)) in
-    let n = c .before .before .before .before .loop .n in c .is-padding .result ≡ eqb (bitsFrom w (32 * (n - 1))) (continued (bitsFrom w (32 * (n - 2))))
-tested c = cc (c .is-padding .ensures, c .before .limb-of2 .ensures, c .before .before .limb-of .ensures)
-
-returns : tie.Need-returns Inv-loop μ-loop
+returns : tie.Need-returns
 returns c =
-    let l = c .before .before .before .before .before .loop in
-    settled-at _ (l .n) (c .before .before .before .before .loop-test .taken) (l .inv .1) (eqb-false _ _ (sym (tested (c .before)) ∙ not-true _ (c .if1 .taken)))
+    let a = c .before .before .before .before in
+    sym (c .if1 .taken) ∙ counted-one _ (a .args .enough) (c .if1 .taken) (a .pre .1 .1 .1 .1)
 
-sub-n : tie.Need-sub-n Inv-loop μ-loop
-sub-n c = omega arith
+enum-known-operation : tie.Need-enum-known-operation
+enum-known-operation c = search needs
 
-loop-less : tie.Need-loop-less Inv-loop μ-loop
-loop-less c = omega arith
+-- the operation that an arm of the match stands for
+arm : (P : ℤ → Type 0) (x y z : ℤ) {o p : Operation} → o ≡ p → P (meaning o x y z) → P (meaning p x y z)
+arm P x y z = subst (λ (o : Operation). P (meaning o x y z))
 
-loop-again : tie.Need-loop-again Inv-loop μ-loop
-loop-again c =
-    let l = c .before .before .before .before .before .loop in
-    ((omega arith, omega arith), shorter-by-one _ (l .n) (c .before .before .before .before .loop-test .taken) (l .inv .1) (eqb-true _ _ (sym (tested (c .before)) ∙ not-false _ (c .if1 .left))))
+measure-logical-requires : tie.Need-measure-logical-requires
+unfolding meaning
+measure-logical-requires c κs =
+    let a = c .before .before .before .before .before .before .before in
+    let p = a .pre .1 .1 .1 in
+    (a .pre .0, (a .pre .1 .0, (p .0 .1 .0, arm (λ w. bitLength w < 32 * a .args .enough) _ _ _ (c .before .operation .given .1) (p .1))))
 
-returns-2 : tie.Need-returns-2 Inv-loop μ-loop
-returns-2 c =
-    let l = c .before .loop in
-    let e : l .n ≡ 1 = omega arith in
-    let a = c .before .before .before .before .before in
-    let w = meaning (a .args .operation) (value (a .args .x .now)) (value (a .args .y .now)) (value (a .args .z .now)) in
-    e ∙ sym (settled-one w (subst (λ (k : ℕ). bitLength w < 32 * k) e (l .inv .1)))
+measure-any-requires : tie.Need-measure-any-requires
+measure-any-requires c κs = search needs
+
+returns-2 : tie.Need-returns-2
+unfolding meaning
+returns-2 c = arm (λ w. c .measure-logical .result ≡ limbCount w) _ _ _ (sym (c .before .before .operation .given .1)) (c .measure-logical .ensures)
+
+returns-3 : tie.Need-returns-3
+returns-3 c = search needs
 
 pub measure-spec : {M : Type 1} → statement M
-measure-spec =
-    tie.close
-    (tie.spec
-    Inv-loop
-    μ-loop
-    loop-holds
-    sub-limb-of
-    limb-of-requires
-    sub-limb-of-2
-    limb-of-requires-2
-    is-padding-requires
-    returns
-    sub-n
-    loop-less
-    loop-again
-    returns-2)
+measure-spec = tie.close (tie.spec returns enum-known-operation measure-logical-requires measure-any-requires returns-2 returns-3)

@@ -1,0 +1,57 @@
+-- `limbs::logical::write_if_padded` meets its contract, turn by turn. Assumes nothing.
+use Prim.Native.Nat.{_-_}
+use native.Mathlib.Omega.{arith}
+use Rattle.bits.specs.Logical.{bitwiseIf}
+use Rattle.limbwords.specs.Value.{value, limbAt}
+use Rattle.limbs.proofs.BufferLaws.{Turn, turn-none, turn-more, turn-all}
+use Rattle.limbs.proofs.logical.write_if_padded.Statement.{statement}
+use Rattle.limbs.proofs.logical.write_if_padded.Tie as tie
+
+abbrev Inv-loop : tie.InvT-loop
+Inv-loop x y z from to part₀ j₀ part j = Turn (limbAt (bitwiseIf (value x) (value y) (value z))) part₀ part from to j
+
+abbrev μ-loop : tie.MeasureT-loop
+μ-loop x y z from to part₀ j₀ part j = to - j
+
+loop-holds : tie.Need-loop-holds Inv-loop μ-loop
+loop-holds c = turn-none _ _ _ _ (omega arith)
+
+if-limb-requires : tie.Need-if-limb-requires Inv-loop μ-loop
+if-limb-requires c κs = omega arith
+
+mul-part : tie.Need-mul-part Inv-loop μ-loop
+mul-part c = omega arith
+
+slice-write-part : tie.Need-slice-write-part Inv-loop μ-loop
+slice-write-part c = omega arith
+
+add-j : tie.Need-add-j Inv-loop μ-loop
+add-j c = omega arith
+
+loop-less : tie.Need-loop-less Inv-loop μ-loop
+loop-less c = omega arith
+
+loop-again : tie.Need-loop-again Inv-loop μ-loop
+loop-again c = turn-more _ (c .before .before .loop .inv) (c .if-limb .ensures) (c .before .loop-test .taken) (omega arith)
+
+same-length : tie.Need-same-length Inv-loop μ-loop
+same-length c = c .before .loop .inv .so-far .size
+
+returns : tie.Need-returns Inv-loop μ-loop
+returns c = turn-all (c .before .loop .inv) (c .loop-test .left)
+
+pub write-if-padded-spec : {M : Type 1} → statement M
+write-if-padded-spec =
+    tie.close
+    (tie.spec
+    Inv-loop
+    μ-loop
+    loop-holds
+    if-limb-requires
+    mul-part
+    slice-write-part
+    add-j
+    loop-less
+    loop-again
+    same-length
+    returns)

@@ -1,0 +1,103 @@
+-- `limbs::segment::put_joined` meets its contract, turn by turn. Assumes nothing.
+use native.Mathlib.Omega.{arith}
+use Prim.Native.Nat.{_+_, _*_, _-_}
+use Rattle.limbwords.specs.Value.{value, bitsFrom}
+use mathlib.Core.Path.{_≡_, ap, _∙_}
+use Rattle.limbwords.proofs.LimbLaws.{window-value}
+use Rattle.limbs.proofs.BufferLaws.{Turn, turn-none, turn-more, turn-all}
+use borrow.Author.Needs.{needs}
+use Rattle.limbs.proofs.segment.put_joined.Statement.{statement}
+use Rattle.limbs.proofs.segment.put_joined.Tie as tie
+
+abbrev Inv-loop : tie.InvT-loop
+Inv-loop x i k from to part₀ j₀ part j = Turn (λ n. bitsFrom (value x) (32 * i + k + 32 * (n - from))) part₀ part from to j
+
+abbrev μ-loop : tie.MeasureT-loop
+μ-loop x i k from to part₀ j₀ part j = to - j
+
+loop-holds : tie.Need-loop-holds Inv-loop μ-loop
+loop-holds c = turn-none _ _ _ _ (omega arith)
+
+sub-join : tie.Need-sub-join Inv-loop μ-loop
+sub-join c = c .before .loop .inv .low
+
+add-join : tie.Need-add-join Inv-loop μ-loop
+add-join c = omega arith
+
+mul-join : tie.Need-mul-join Inv-loop μ-loop
+mul-join c = omega arith
+
+shared-slice-read-join : tie.Need-shared-slice-read-join Inv-loop μ-loop
+shared-slice-read-join c = omega arith
+
+sub-join-2 : tie.Need-sub-join-2 Inv-loop μ-loop
+sub-join-2 c = omega arith
+
+add-join-2 : tie.Need-add-join-2 Inv-loop μ-loop
+add-join-2 c = omega arith
+
+add-join-3 : tie.Need-add-join-3 Inv-loop μ-loop
+add-join-3 c = omega arith
+
+mul-join-2 : tie.Need-mul-join-2 Inv-loop μ-loop
+mul-join-2 c = omega arith
+
+shared-slice-read-join-2 : tie.Need-shared-slice-read-join-2 Inv-loop μ-loop
+shared-slice-read-join-2 c = omega arith
+
+join-requires : tie.Need-join-requires Inv-loop μ-loop
+join-requires c κs = search needs
+
+mul-part : tie.Need-mul-part Inv-loop μ-loop
+mul-part c = omega arith
+
+slice-write-part : tie.Need-slice-write-part Inv-loop μ-loop
+slice-write-part c = omega arith
+
+add-j : tie.Need-add-j Inv-loop μ-loop
+add-j c = omega arith
+
+loop-less : tie.Need-loop-less Inv-loop μ-loop
+loop-less c = omega arith
+
+loop-again : tie.Need-loop-again Inv-loop μ-loop
+loop-again c =
+    let a = c .before .before .before .before .before .before .before in
+    let s = a .args .i + (c .before .before .before .before .loop .j - a .args .from) in
+    let at : 32 * s + a .args .k ≡ 32 * a .args .i + a .args .k + 32 * (c .before .before .before .before .loop .j - a .args .from) = omega arith in
+    turn-more _ (c .before .before .before .before .loop .inv)
+    (c .join .ensures
+    ∙ window-value (a .args .x .now) s (a .args .k) (λ n. c .before .before .shared-slice-known2 .given n .fits) (omega arith) (omega arith)
+    ∙ ap (bitsFrom (value (a .args .x .now))) at)
+    (c .before .before .before .loop-test .taken) (omega arith)
+
+same-length : tie.Need-same-length Inv-loop μ-loop
+same-length c = c .before .loop .inv .so-far .size
+
+returns : tie.Need-returns Inv-loop μ-loop
+returns c = turn-all (c .before .loop .inv) (c .loop-test .left)
+
+pub put-joined-spec : {M : Type 1} → statement M
+put-joined-spec =
+    tie.close
+    (tie.spec
+    Inv-loop
+    μ-loop
+    loop-holds
+    sub-join
+    add-join
+    mul-join
+    shared-slice-read-join
+    sub-join-2
+    add-join-2
+    add-join-3
+    mul-join-2
+    shared-slice-read-join-2
+    join-requires
+    mul-part
+    slice-write-part
+    add-j
+    loop-less
+    loop-again
+    same-length
+    returns)

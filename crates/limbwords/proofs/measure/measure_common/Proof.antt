@@ -1,0 +1,73 @@
+-- `limbwords::measure::measure_common` meets its contract, turn by turn. Assumes nothing.
+use Prim.Native.Nat.{_≤_}
+use native.Mathlib.Omega.{arith}
+use borrow.Author.Needs.{needs}
+use Rattle.bits.specs.Logical.{bitwise}
+use Rattle.limbwords.specs.Value.{value}
+use Rattle.limbwords.specs.Results.{logicOf}
+use Rattle.limbwords.proofs.MeasureLaws.{Enough, one-less, counted, counted-one}
+use Rattle.limbwords.proofs.measure.measure_common.Statement.{statement}
+use Rattle.limbwords.proofs.measure.measure_common.Tie as tie
+
+abbrev Inv-loop : tie.InvT-loop
+Inv-loop by x y enough n₀ high₀ n high = Enough (bitwise (logicOf by) (value x) (value y)) n high × (n ≤ enough)
+
+abbrev μ-loop : tie.MeasureT-loop
+μ-loop by x y enough n₀ high₀ n high = n
+
+sub-common-limb : tie.Need-sub-common-limb Inv-loop μ-loop
+sub-common-limb c = c .before .before .pre .1 .0
+
+common-limb-requires : tie.Need-common-limb-requires Inv-loop μ-loop
+common-limb-requires c κs = search needs
+
+loop-holds : tie.Need-loop-holds Inv-loop μ-loop
+loop-holds c =
+    let p = c .before .before .before .pre .1 in
+    (record { some = p .0; size = p .1; last = c .common-limb .ensures }, omega arith)
+
+sub-common-limb-2 : tie.Need-sub-common-limb-2 Inv-loop μ-loop
+sub-common-limb-2 c = omega arith
+
+common-limb-requires-2 : tie.Need-common-limb-requires-2 Inv-loop μ-loop
+common-limb-requires-2 c κs = search needs
+
+is-padding-requires : tie.Need-is-padding-requires Inv-loop μ-loop
+is-padding-requires c κs = search needs
+
+returns : tie.Need-returns Inv-loop μ-loop
+returns c =
+    let t = c .before .before .before in
+    counted (t .before .loop .inv .0) (t .loop-test .taken) (c .before .before .common-limb2 .ensures) (c .before .is-padding .ensures) (c .if1 .taken)
+
+sub-n : tie.Need-sub-n Inv-loop μ-loop
+sub-n c = omega arith
+
+loop-less : tie.Need-loop-less Inv-loop μ-loop
+loop-less c = omega arith
+
+loop-again : tie.Need-loop-again Inv-loop μ-loop
+loop-again c =
+    let t = c .before .before .before in
+    (one-less (t .before .loop .inv .0) (t .loop-test .taken) (c .before .before .common-limb2 .ensures) (c .before .is-padding .ensures) (c .if1 .left), omega arith)
+
+returns-2 : tie.Need-returns-2 Inv-loop μ-loop
+returns-2 c = let l = c .before .loop in counted-one _ (l .n) (omega (arith, l .inv .0 .some)) (l .inv .0 .size)
+
+pub measure-common-spec : {M : Type 1} → statement M
+measure-common-spec =
+    tie.close
+    (tie.spec
+    Inv-loop
+    μ-loop
+    sub-common-limb
+    common-limb-requires
+    loop-holds
+    sub-common-limb-2
+    common-limb-requires-2
+    is-padding-requires
+    returns
+    sub-n
+    loop-less
+    loop-again
+    returns-2)
