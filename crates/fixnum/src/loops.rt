@@ -40,18 +40,18 @@ fn holds(relation: Relation, x: i64, y: i64) -> bool
     }
 }
 
+// No way out of the loop depends on the arguments: which relation holds of two is hard to predict.
 pub fn chain(relation: Relation, args: [i64; 4], count: u64) -> bool
     requires { ⌜ (1 ≤ count) × (count ≤ 4) ⌝ }
     ensures { λ r. ⌜ r ≡ operations.chain (steps.holds relation) (counted args count) ⌝ }
 {
+    let mut all = true;
     let mut i: u64 = 0;
     while i + 1 < count {
-        if !holds(relation, args[i as usize], args[(i + 1) as usize]) {
-            return false;
-        }
+        all = all & holds(relation, args[i as usize], args[(i + 1) as usize]);
         i += 1;
     }
-    true
+    all
 }
 
 pub fn all_fixnums(width: u64, args: [i64; 4], count: u64) -> bool
