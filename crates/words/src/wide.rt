@@ -101,7 +101,11 @@ pub fn add(s: Wide, negative: bool, n: u64) -> Wide
 {
     let grown = grow(s, n);
     let shrunk = shrink(s, n);
-    if s.negative == negative { grown } else { shrunk }
+    if s.negative == negative {
+        grown
+    } else {
+        shrunk
+    }
 }
 
 // s - x where minus, else s + x.
