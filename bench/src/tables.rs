@@ -1,0 +1,92 @@
+//! The tables, in Markdown.
+
+use crate::timing::Case;
+
+/// The cases of the limb calls, in the same order at each length.
+pub struct LimbCases {
+    pub one: Vec<Case>,
+    pub medium: Vec<Case>,
+    pub long: Vec<Case>,
+    /// Results that are much shorter than their operands, at the largest length.
+    pub short_results: Vec<Case>,
+}
+
+/// How many times GMP's or plain Rust's time these limb calls may take at 1,024 limbs.
+const LIMB_AIM: f64 = 2.0;
+const LIMB_AIM_CALLS: [&str; 11] = [
+    "bitwise-not",
+    "bitwise-and",
+    "bitwise-ior",
+    "bitwise-xor",
+    "bitwise-if",
+    "bitwise-bit-field",
+    "bitwise-copy-bit-field",
+    "bitwise-rotate-bit-field",
+    "bitwise-arithmetic-shift",
+    "bitwise-arithmetic-shift-left",
+    "bitwise-arithmetic-shift-right",
+];
+
+/// How many times plain Rust's time a fixnum call may take.
+const FIXNUM_AIM: f64 = 3.0;
+
+pub fn limbs(cases: &LimbCases) {
+    println!("### Limb calls\n");
+    println!("| Limb call | GMP, 1 limb | GMP, 32 | GMP, 1,024 | Rust, 1 limb | Rust, 32 | Rust, 1,024 | Growth |");
+    println!("|---|--:|--:|--:|--:|--:|--:|--:|");
+    for ((one, medium), long) in cases.one.iter().zip(&cases.medium).zip(&cases.long) {
+        let sizes = [one, medium, long];
+        let gmp = sizes.map(|case| optional(case.over_gmp())).join(" | ");
+        let plain = sizes.map(|case| ratio(case.over_plain())).join(" | ");
+        println!("| {} | {gmp} | {plain} | {} |", one.name, ratio(long.growth_from(medium)));
+    }
+    for case in &cases.short_results {
+        println!("| {} | | | {} | | | {} | |", case.name, optional(case.over_gmp()), ratio(case.over_plain()));
+    }
+}
+
+pub fn fixnums(cases: &[Case]) {
+    println!("### Fixnum calls\n");
+    println!("| Code | Fixnum call | Rust |");
+    println!("|--:|---|--:|");
+    for (case, code) in cases.iter().zip(1..) {
+        println!("| {code} | {} | {} |", case.name, ratio(case.over_plain()));
+    }
+}
+
+pub fn aims(limbs: &LimbCases, fixnums: &[Case]) {
+    let aimed = || limbs.long.iter().filter(|case| LIMB_AIM_CALLS.contains(&case.name.as_str()));
+    let gmp = |case: &Case| case.over_gmp().unwrap_or(f64::INFINITY);
+    let least = |case: &Case| gmp(case).min(case.over_plain());
+    let what = "Logical operations, shifts, bit-field, copy-bit-field, rotate at 1,024 limbs";
+    println!("### Aims\n");
+    println!("| Aim | Missed by, with the ratio |");
+    println!("|---|---|");
+    println!("| {what}: within 2 times GMP | {} |", missed(aimed(), gmp, LIMB_AIM));
+    println!("| The same: within 2 times plain Rust | {} |", missed(aimed(), Case::over_plain, LIMB_AIM));
+    println!("| The same: within 2 times one of the two | {} |", missed(aimed(), least, LIMB_AIM));
+    println!("| Fixnum calls: within 3 times plain Rust | {} |", missed(fixnums.iter(), Case::over_plain, FIXNUM_AIM));
+}
+
+/// The cases above the aim, each with its ratio.
+fn missed<'a>(cases: impl Iterator<Item = &'a Case>, of: impl Fn(&Case) -> f64, aim: f64) -> String {
+    let misses: Vec<String> =
+        cases.filter(|case| of(case) > aim).map(|case| format!("{} {}", case.name, ratio(of(case)))).collect();
+    if misses.is_empty() {
+        "none".to_string()
+    } else {
+        misses.join(", ")
+    }
+}
+
+fn optional(value: Option<f64>) -> String {
+    value.map_or("–".to_string(), ratio)
+}
+
+fn ratio(value: f64) -> String {
+    if value < 0.095 {
+        format!("{value:.2}")
+    } else {
+        format!("{value:.1}")
+    }
+}
