@@ -48,6 +48,11 @@ module _ (xs : List ℤ) (n : ℕ) (four : length xs ≡ 4) (few : n ≤ 4) wher
   unfolding foldFrom
   fold-step f x i h = ap (foldFrom f x) (rest-cons xs n four few i h)
 
+  pub fold-two : (f : ℤ → ℤ → ℤ) (x : ℤ) → n ≡ 2 → foldFrom f x (counted xs n) ≡ f (f x (arg xs 0)) (arg xs 1)
+  unfolding foldFrom
+  fold-two f x e =
+      fold-step f x 0 (omega arith) ∙ fold-step f (f x (arg xs 0)) 1 (omega arith) ∙ ap (foldFrom f (f (f x (arg xs 0)) (arg xs 1))) (rest-none xs n 2 (omega arith))
+
   pub chain-step : (r : ℤ → ℤ → Bool) (i : ℕ) → i + 1 < n
       → chain r (drop i (counted xs n)) ≡ r (arg xs i) (arg xs (i + 1)) && chain r (drop (i + 1) (counted xs n))
   unfolding chain chainFrom

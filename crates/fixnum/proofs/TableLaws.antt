@@ -1,10 +1,10 @@
 -- Rules that hold of every row of the table, each a computed test; and cases on the code. Assumes nothing.
 use Prim.Native.Nat.{ℕ, zero, suc, _+_, _*_, _/_, _%_, _-_, _≤_, _<_}
-use native.Mathlib.Nat.{le-trans, le-of-suc-le-suc, not-suc-le-zero}
+use native.Mathlib.Nat.{le-trans, not-suc-le-zero}
 use native.Mathlib.Omega.{arith}
-use mathlib.Core.Path.{_≡_, refl, sym, ap, _∙_, subst}
+use mathlib.Core.Path.{_≡_, refl, sym, subst}
 use mathlib.Core.Bool.{Bool, true, false, _&&_}
-use mathlib.Core.List.{List, [], _∷_, map}
+use mathlib.Core.List.{List, [], _∷_}
 use lib.Dec.{leb, eqb}
 use lib.ListN.{getD, length}
 use borrow.Author.Tests.{leb-true, eqb-true, eqb-false}
@@ -41,24 +41,18 @@ pub code-bounds : (code : ℕ) → isCode code ≡ true → (1 ≤ code) × (cod
 unfolding isCode rows
 code-bounds code h = between 1 code 41 h
 
-getD-map : (f : Row → ℕ) (rs : List Row) (d : Row) (i e : ℕ) → i < length rs → getD (map f rs) i e ≡ f (getD rs i d)
-getD-map f [] d i e h = absurd (not-suc-le-zero h)
-getD-map f (r ∷ rs) d zero e h = refl
-getD-map f (r ∷ rs) d (suc i) e h = getD-map f rs d i e (le-of-suc-le-suc h)
+-- both counts of a code, from one number of two hexadecimal digits
+pub count-digits : (code n : ℕ) → n ≡ rowOf code .least * 16 + rowOf code .most → (n / 16 ≡ rowOf code .least) × (n % 16 ≡ rowOf code .most)
+count-digits code n e = (omega (arith, e, most-four code), omega (arith, e, most-four code))
 
--- a column of numbers, as the code holds it
-column : (f : Row → ℕ) (ns : List ℕ) → ns ≡ map f rows → (code : ℕ) → isCode code ≡ true → getD ns (code - 1) 0 ≡ f (rowOf code)
-unfolding rowOf rows
-column f ns e code h =
-    let b = code-bounds code h in
-    ap (λ (l : List ℕ). getD l (code - 1) 0) e ∙ getD-map f rows noRow (code - 1) 0 (omega arith)
+-- what the last arm of a match knows, whose other arms are 1 to k
+abbrev NoneTo : ℕ → ℕ → Type 0
+NoneTo zero code = Unit {0}
+NoneTo (suc k) code = NoneTo k code × (code ≡ suc k → ⊥)
 
--- both counts of a code in one number of two hexadecimal digits
-pub counts-column : (ns : List ℕ) → ns ≡ map (λ r. r .least * 16 + r .most) rows → (code : ℕ) → isCode code ≡ true
-    → (getD ns (code - 1) 0 / 16 ≡ rowOf code .least) × (getD ns (code - 1) 0 % 16 ≡ rowOf code .most)
-counts-column ns e code h =
-    let c = column (λ r. r .least * 16 + r .most) ns e code h in
-    (omega (arith, c, most-four code), omega (arith, c, most-four code))
+pub past : (k code : ℕ) → 1 ≤ code → NoneTo k code → k < code
+past zero code h n = h
+past (suc k) code h n = let l = past k code h (n .0) in let d = n .1 in omega arith
 
 -- cases on a code from a to a + k - 1
 abbrev Each : (ℕ → Type 0) → ℕ → ℕ → Type 0

@@ -1,6 +1,7 @@
 // The tests behind refusals 2, 3 and 5, which 01's tables give: code, argument count, domains.
 ghost use mathlib.Core.Path.{_≡_};
 ghost use mathlib.Core.Bool.{true, _&&_};
+ghost use Prim.Native.Nat.{_+_, _*_};
 ghost use lib.IntN.{pos, _-ℤ_};
 ghost use lib.Signed.{leZ, ltZ};
 ghost use Rattle.bits.specs.Range as range;
@@ -12,63 +13,68 @@ use words::sign::absolute;
 
 const CODES: u64 = 41;
 
-// The argument counts of each code: the least, and the largest.
-const COUNTS: [u64; 41] = [
-    0x24, // 1 fx=?
-    0x24, // 2 fx>?
-    0x24, // 3 fx<?
-    0x24, // 4 fx>=?
-    0x24, // 5 fx<=?
-    0x11, // 6 fxzero?
-    0x11, // 7 fxpositive?
-    0x11, // 8 fxnegative?
-    0x11, // 9 fxodd?
-    0x11, // 10 fxeven?
-    0x14, // 11 fxmax
-    0x14, // 12 fxmin
-    0x22, // 13 fx+
-    0x22, // 14 fx*
-    0x12, // 15 fx-
-    0x22, // 16 fxdiv
-    0x22, // 17 fxmod
-    0x22, // 18 fxdiv-and-mod
-    0x22, // 19 fxdiv0
-    0x22, // 20 fxmod0
-    0x22, // 21 fxdiv0-and-mod0
-    0x33, // 22 fx+/carry
-    0x33, // 23 fx-/carry
-    0x33, // 24 fx*/carry
-    0x11, // 25 fxnot
-    0x04, // 26 fxand
-    0x04, // 27 fxior
-    0x04, // 28 fxxor
-    0x33, // 29 fxif
-    0x11, // 30 fxbit-count
-    0x11, // 31 fxlength
-    0x11, // 32 fxfirst-bit-set
-    0x22, // 33 fxbit-set?
-    0x33, // 34 fxcopy-bit
-    0x33, // 35 fxbit-field
-    0x44, // 36 fxcopy-bit-field
-    0x22, // 37 fxarithmetic-shift
-    0x22, // 38 fxarithmetic-shift-left
-    0x22, // 39 fxarithmetic-shift-right
-    0x44, // 40 fxrotate-bit-field
-    0x33, // 41 fxreverse-bit-field
-];
-
 pub fn is_code(code: u64) -> bool
     ensures { λ r. ⌜ r ≡ isCode code ⌝ }
 {
     1 <= code && code <= CODES
 }
 
+// The argument counts of each code, in two hexadecimal digits: the least, and the largest. One number in each arm: the compiler
+// then makes a table of them.
+fn counts_of(code: u64) -> u64
+    requires { ⌜ isCode code ≡ true ⌝ }
+    ensures { λ r. ⌜ r ≡ rowOf code .least * 16 + rowOf code .most ⌝ }
+{
+    match code {
+        1 => 0x24, // fx=?
+        2 => 0x24, // fx>?
+        3 => 0x24, // fx<?
+        4 => 0x24, // fx>=?
+        5 => 0x24, // fx<=?
+        6 => 0x11, // fxzero?
+        7 => 0x11, // fxpositive?
+        8 => 0x11, // fxnegative?
+        9 => 0x11, // fxodd?
+        10 => 0x11, // fxeven?
+        11 => 0x14, // fxmax
+        12 => 0x14, // fxmin
+        13 => 0x22, // fx+
+        14 => 0x22, // fx*
+        15 => 0x12, // fx-
+        16 => 0x22, // fxdiv
+        17 => 0x22, // fxmod
+        18 => 0x22, // fxdiv-and-mod
+        19 => 0x22, // fxdiv0
+        20 => 0x22, // fxmod0
+        21 => 0x22, // fxdiv0-and-mod0
+        22 => 0x33, // fx+/carry
+        23 => 0x33, // fx-/carry
+        24 => 0x33, // fx*/carry
+        25 => 0x11, // fxnot
+        26 => 0x04, // fxand
+        27 => 0x04, // fxior
+        28 => 0x04, // fxxor
+        29 => 0x33, // fxif
+        30 => 0x11, // fxbit-count
+        31 => 0x11, // fxlength
+        32 => 0x11, // fxfirst-bit-set
+        33 => 0x22, // fxbit-set?
+        34 => 0x33, // fxcopy-bit
+        35 => 0x33, // fxbit-field
+        36 => 0x44, // fxcopy-bit-field
+        37 => 0x22, // fxarithmetic-shift
+        38 => 0x22, // fxarithmetic-shift-left
+        39 => 0x22, // fxarithmetic-shift-right
+        40 => 0x44, // fxrotate-bit-field
+        _ => 0x33, // fxreverse-bit-field
+    }
+}
+
 pub fn is_count(code: u64, count: u64) -> bool
     requires { ⌜ isCode code ≡ true ⌝ }
     ensures { λ r. ⌜ r ≡ isCount code count ⌝ }
 {
-    let row = (code - 1) as usize;
-    let counts = COUNTS[row];
+    let counts = counts_of(code);
     counts / 16 <= count && count <= counts % 16
 }
 

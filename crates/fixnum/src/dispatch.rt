@@ -15,32 +15,39 @@ use super::fields::fields;
 use super::logical::logical;
 use super::shifts::shift;
 
+// By halves: the compiler takes a call that stands behind many tests for a rare one, and does not build it in.
 pub fn operate(width: u64, code: u64, args: [i64; 4], count: u64) -> Answer
     requires { ⌜ Accepted width code args count ⌝ }
     requires { ⌜ (1 ≤ code) × (code ≤ 41) ⌝ }
     ensures { λ r. ⌜ r ≡ outcome width code (counted args count) ⌝ }
 {
-    if code <= 5 {
-        compare(width, code, args, count)
-    } else if code <= 10 {
-        ask(width, code, args, count)
-    } else if code <= 12 {
-        extreme(width, code, args, count)
-    } else if code <= 15 {
-        arithmetic(width, code, args, count)
-    } else if code <= 21 {
-        divide(width, code, args, count)
-    } else if code <= 24 {
-        carry(width, code, args, count)
+    if code <= 15 {
+        if code <= 10 {
+            if code <= 5 {
+                compare(width, code, args, count)
+            } else {
+                ask(width, code, args, count)
+            }
+        } else if code <= 12 {
+            extreme(width, code, args, count)
+        } else {
+            arithmetic(width, code, args, count)
+        }
     } else if code <= 29 {
-        logical(width, code, args, count)
-    } else if code <= 32 {
-        counts(width, code, args, count)
+        if code <= 21 {
+            divide(width, code, args, count)
+        } else if code <= 24 {
+            carry(width, code, args, count)
+        } else {
+            logical(width, code, args, count)
+        }
     } else if code <= 34 {
-        bit(width, code, args, count)
-    } else if code <= 36 {
-        fields(width, code, args, count)
-    } else if code <= 39 {
+        if code <= 32 {
+            counts(width, code, args, count)
+        } else {
+            bit(width, code, args, count)
+        }
+    } else if 37 <= code && code <= 39 {
         shift(width, code, args, count)
     } else {
         fields(width, code, args, count)

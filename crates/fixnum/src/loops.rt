@@ -40,18 +40,18 @@ fn holds(relation: Relation, x: i64, y: i64) -> bool
     }
 }
 
+// No way out of the loop depends on the arguments: which relation holds of two is hard to predict.
 pub fn chain(relation: Relation, args: [i64; 4], count: u64) -> bool
     requires { ⌜ (1 ≤ count) × (count ≤ 4) ⌝ }
     ensures { λ r. ⌜ r ≡ operations.chain (steps.holds relation) (counted args count) ⌝ }
 {
+    let mut all = true;
     let mut i: u64 = 0;
     while i + 1 < count {
-        if !holds(relation, args[i as usize], args[(i + 1) as usize]) {
-            return false;
-        }
+        all = all & holds(relation, args[i as usize], args[(i + 1) as usize]);
         i += 1;
     }
-    true
+    all
 }
 
 pub fn all_fixnums(width: u64, args: [i64; 4], count: u64) -> bool
@@ -80,11 +80,15 @@ fn combine(fold: Fold, x: i64, y: i64) -> i64
     }
 }
 
-// The fold of all arguments, from a first value on.
+// The fold of all arguments, from a first value on: two, the most usual count, without a loop.
 pub fn fold_all(fold: Fold, first: i64, args: [i64; 4], count: u64) -> i64
     requires { ⌜ count ≤ 4 ⌝ }
     ensures { λ r. ⌜ r ≡ operations.foldFrom (steps.step fold) first (counted args count) ⌝ }
 {
+    if count == 2 {
+        let value = combine(fold, first, args[0]);
+        return combine(fold, value, args[1]);
+    }
     let mut value = first;
     let mut i: u64 = 0;
     while i < count {

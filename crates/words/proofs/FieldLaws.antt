@@ -17,7 +17,6 @@ use Rattle.bits.specs.Division.{modℕ}
 use Rattle.bits.specs.Field.{copyBitField}
 use Rattle.bits.proofs.MagnitudeLaws.{ofMagnitude-mag}
 use Rattle.bits.proofs.FieldWords.{copyBitField-magnitude, setField-lt}
-use Rattle.bits.proofs.RotateWords.{reverseDigits}
 use Rattle.bits.proofs.WordLaws.{back, mag-ofMagnitude}
 
 -- ---- sign and magnitude
@@ -75,14 +74,3 @@ module _ (negative : Bool) (m start end y : ℕ) {new : ℕ} (e : new ≡ modℕ
       subst (λ (n : ℕ). n < 2 ^ 63) (ap mag (sym replaced) ∙ mag-ofMagnitude negative (m - m % 2 ^ end + new * 2 ^ start + m % 2 ^ start))
       (setField-lt (ofMagnitude negative m) start end (λ j. testbit (pos y) j) 63 (omega arith)
       (subst (λ (n : ℕ). n < 2 ^ 63) (sym (mag-ofMagnitude negative m)) k))
-
--- ---- a turn of the reversal, and its end
-
-pub reverse-turn : (size turn rest reversed : ℕ) → turn < size
-    → reverseDigits (size - (turn + 1)) (rest / 2) (reversed * 2 + rest % 2) ≡ reverseDigits (size - turn) rest reversed
-reverse-turn size turn rest reversed h =
-    let e : suc (size - (turn + 1)) ≡ size - turn = omega arith in ap (λ (k : ℕ). reverseDigits k rest reversed) e
-
-pub reverse-end : (size turn rest reversed : ℕ) → size ≤ turn → reversed ≡ reverseDigits (size - turn) rest reversed
-reverse-end size turn rest reversed h =
-    let e : 0 ≡ size - turn = omega arith in ap (λ (k : ℕ). reverseDigits k rest reversed) e

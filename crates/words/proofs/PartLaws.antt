@@ -11,6 +11,7 @@ use lib.Arith.{digits-div, digits-mod}
 use lib.Pow.{pow-pos, pow-mono, pow-add, split, shr-lt}
 use lib.Signed.{mag, leZ, _≤ℤ_, _<ℤ_, leZ-yes, ltZ-yes}
 use borrow.Author.Tests.{leb-false, ltb-false, lt-ltb, le-leb}
+use mir.Val.{boolByte}
 use Rattle.bits.specs.Testbit.{fits}
 use Rattle.bits.specs.Sign.{withSign}
 use Rattle.bits.specs.Division.{div0, mod0}
@@ -93,7 +94,7 @@ module _ (w : ℕ) (s : Wide) (r : ℕ) (h : 0 < w) (e : r ≡ natAbs (wideValue
     pub low-near : withSign (s .negative) r ≡ mod0 (wideValue s) (pos (2 ^ w))
     low-near = cc (near w (s .negative) (natAbs (wideValue s)) h fits-near .1, wide-sign s)
 
-    pub high-near : (q : ℕ) → q ≡ natAbs (wideValue s) / 2 ^ w → withSign (s .negative) q ≡ div0 (wideValue s) (pos (2 ^ w))
+    high-near : (q : ℕ) → q ≡ natAbs (wideValue s) / 2 ^ w → withSign (s .negative) q ≡ div0 (wideValue s) (pos (2 ^ w))
     high-near q d = cc (near w (s .negative) (natAbs (wideValue s)) h fits-near .0, wide-sign s)
 
   module _ (t : fits w (withSign (s .negative) r) ≡ false) where
@@ -103,12 +104,22 @@ module _ (w : ℕ) (s : Wide) (r : ℕ) (h : 0 < w) (e : r ≡ natAbs (wideValue
     pub low-far : (m : ℕ) → m ≡ 2 ^ w → withSign (not (s .negative)) (m - r) ≡ mod0 (wideValue s) (pos (2 ^ w))
     low-far m d = cc (far w (s .negative) (natAbs (wideValue s)) h fits-far .1, wide-sign s)
 
-    pub high-far : (q : ℕ) → q ≡ natAbs (wideValue s) / 2 ^ w → withSign (s .negative) (q + 1) ≡ div0 (wideValue s) (pos (2 ^ w))
+    high-far : (q : ℕ) → q ≡ natAbs (wideValue s) / 2 ^ w → withSign (s .negative) (q + 1) ≡ div0 (wideValue s) (pos (2 ^ w))
     high-far q d = cc (far w (s .negative) (natAbs (wideValue s)) h fits-far .0, wide-sign s)
 
     -- it fits a word
     pub low-far-fits : (m : ℕ) → m ≡ 2 ^ w → fits w (withSign (not (s .negative)) (m - r)) ≡ true
     low-far-fits m d = rw d (far-fits w (s .negative) r h (subst (λ (k : ℕ). k < 2 ^ w) (sym e) (mod-lt (natAbs (wideValue s)) (pow-pos w))) t)
+
+  -- one more where the remainder is far
+  pub high-either : (near : Bool) → near ≡ fits w (withSign (s .negative) r) → (q : ℕ) → q ≡ natAbs (wideValue s) / 2 ^ w
+      → withSign (s .negative) (q + boolByte (not near)) ≡ div0 (wideValue s) (pos (2 ^ w))
+  high-either true t q d = let z : q + 0 ≡ q = omega arith in ap (withSign (s .negative)) z ∙ high-near (sym t) q d
+  high-either false t q d = high-far (sym t) q d
+
+pub one-more : (b : Bool) (q : ℕ) → q < 2 ^ 62 → q + boolByte b < 2 ^ 63
+one-more true q h = omega arith
+one-more false q h = omega arith
 
 pub fits-wider : (w v : ℕ) (x : ℤ) → w ≤ v → fits w x ≡ true → fits v x ≡ true
 unfolding fits

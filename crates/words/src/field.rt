@@ -8,6 +8,7 @@ ghost use Rattle.bits.specs.Sign.{ofMagnitude};
 ghost use Rattle.bits.specs.Shift.{shiftRight};
 ghost use Rattle.bits.specs.Division.{modℕ};
 ghost use Rattle.bits.specs.Field.{copyBitField, rotateBitField, reverseBitField};
+use super::reverse::reverse_word;
 use super::sign::from_magnitude;
 use super::sign::is_negative;
 use super::sign::magnitude;
@@ -106,18 +107,10 @@ pub fn rotate(v: u64, size: u64, c: u64) -> u64
     shifted(low(v, stay), c) + (v >> stay)
 }
 
-// A field v of some size with its bits in the opposite order, one bit a turn.
+// A field v of some size with its bits in the opposite order. In the whole word's opposite order they stand 64 - size too high.
 pub fn reverse(v: u64, size: u64) -> u64
     requires { ⌜ (size < 64) × (v < 2 ^ size) ⌝ }
     ensures { λ r. ⌜ pos r ≡ reverseBitField (pos v) 0 size ⌝ }
 {
-    let mut rest = v;
-    let mut reversed = 0;
-    let mut turn = 0;
-    while turn < size {
-        reversed = reversed * 2 + rest % 2;
-        rest = rest / 2;
-        turn += 1;
-    }
-    reversed
+    reverse_word(v) / 2 >> (63 - size)
 }

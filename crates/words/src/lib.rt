@@ -5,5 +5,6 @@ pub mod division;
 pub mod field;
 pub mod logical;
 pub mod parts;
+mod reverse;
 pub mod sign;
 pub mod wide;

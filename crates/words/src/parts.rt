@@ -24,16 +24,18 @@ fn quotient(width: u64, s: Wide) -> u64
     (s.high << (64 - width)) + (s.low >> width)
 }
 
-// The remainder r of |s| with the sign of s, if that is a fixnum at the width, else 2^width - r with the other sign.
+// The remainder r of |s| with the sign of s, if that is a fixnum at the width, else 2^width - r with the other sign. Both are made
+// before one is chosen, as in `wide::add`.
 pub fn low_part(width: u64, s: Wide) -> i64
     requires { ⌜ (1 ≤ width) × (width < 64) ⌝ }
     ensures { λ r. ⌜ r ≡ mod0 (wideValue s) (pos (2 ^ width)) ⌝ }
 {
     let r = remainder(width, s);
+    let rest = power(width) - r;
     if absolute_fits(width, s.negative, r) {
         from_absolute(s.negative, r)
     } else {
-        from_absolute(!s.negative, power(width) - r)
+        from_absolute(!s.negative, rest)
     }
 }
 
@@ -44,9 +46,6 @@ pub fn high_part(width: u64, s: Wide) -> i64
     ensures { λ r. ⌜ r ≡ div0 (wideValue s) (pos (2 ^ width)) ⌝ }
 {
     let q = quotient(width, s);
-    if absolute_fits(width, s.negative, remainder(width, s)) {
-        from_absolute(s.negative, q)
-    } else {
-        from_absolute(s.negative, q + 1)
-    }
+    let near = absolute_fits(width, s.negative, remainder(width, s));
+    from_absolute(s.negative, q + !near as u64)
 }

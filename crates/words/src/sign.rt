@@ -68,11 +68,11 @@ pub fn is_fixnum(width: u64, x: i64) -> bool
     magnitude(x) < power(width - 1)
 }
 
-// Whether the integer with a sign and an absolute value is a fixnum at a width.
+// Whether the integer with a sign and an absolute value is a fixnum at a width: there is one more that is negative.
 pub fn absolute_fits(width: u64, negative: bool, n: u64) -> bool
     requires { ⌜ (1 ≤ width) × (width ≤ 64) ⌝ }
     ensures { λ r. ⌜ r ≡ fits width (withSign negative n) ⌝ }
 {
     let half = power(width - 1);
-    if negative { n <= half } else { n < half }
+    n < half + negative as u64
 }

@@ -94,14 +94,17 @@ fn shrink(s: Wide, n: u64) -> Wide
     }
 }
 
+// Both sums are made before one is chosen, with no branch: the signs are hard to predict.
 pub fn add(s: Wide, negative: bool, n: u64) -> Wide
     requires { ⌜ natAbs (wideValue s) < 2 ^ 127 ⌝ }
     ensures { λ r. ⌜ wideValue r ≡ wideValue s +ℤ withSign negative n ⌝ }
 {
+    let grown = grow(s, n);
+    let shrunk = shrink(s, n);
     if s.negative == negative {
-        grow(s, n)
+        grown
     } else {
-        shrink(s, n)
+        shrunk
     }
 }
 

@@ -1,12 +1,13 @@
--- `fixnum::loops::chain` meets its contract. The invariant: the answer is that for the arguments from i on. Assumes nothing.
+-- `fixnum::loops::chain` meets its contract. The invariant: the answer is what the turns before found, and the answer for the arguments
+-- from i on. Assumes nothing.
 use Prim.Native.Nat.{_+_, _-_, _<_}
 use native.Mathlib.Omega.{arith}
 use mathlib.Core.Path.{_≡_, refl, sym, ap, _∙_}
-use mathlib.Core.Bool.{Bool, true, false, _&&_}
+use mathlib.Core.Bool.{Bool, _&&_, and-assoc}
 use lib.ListN.{drop}
 use borrow.Author.Needs.{needs}
-use borrow.Author.Tests.{not-true, not-false}
 use Rattle.bits.proofs.WordLaws.{back-word}
+use Rattle.bits.proofs.Booleans.{and-true}
 use Rattle.fixnum.specs.Domains.{arg}
 use Rattle.fixnum.specs.Operations.{chain}
 use Rattle.fixnum.specs.Steps.{holds}
@@ -16,27 +17,11 @@ use Rattle.fixnum.proofs.loops.chain.Statement.{statement}
 use Rattle.fixnum.proofs.loops.chain.Tie as tie
 
 abbrev Inv-loop : tie.InvT-loop
-Inv-loop relation count args i₀ i =
-    (i < count) × (chain (holds relation) (counted args count) ≡ chain (holds relation) (drop i (counted args count)))
+Inv-loop relation count args all₀ i₀ all i =
+    (i < count) × (chain (holds relation) (counted args count) ≡ all && chain (holds relation) (drop i (counted args count)))
 
 abbrev μ-loop : tie.MeasureT-loop
-μ-loop relation count args i₀ i = count - i
-
--- the answer, once the test of arguments i and i + 1 has said b
-turn : (c : tie.After-holds Inv-loop μ-loop) (b : Bool) → c .holds .result ≡ b
-    → chain (holds (c .before .before .before .before .before .args .relation)) (counted (c .before .before .before .before .before .args .t2) (c .before .before .before .before .before .args .count))
-    ≡ b && chain (holds (c .before .before .before .before .before .args .relation)) (drop (c .before .before .before .before .loop .i + 1) (counted (c .before .before .before .before .before .args .t2) (c .before .before .before .before .before .args .count)))
-unfolding arg
-turn c b e =
-    let a = c .before .before .before .before .before in
-    let i = c .before .before .before .before .loop .i in
-    let x = back-word (arg (a .args .t2) i) (c .before .before .holds-arg .given) in
-    let y = back-word (arg (a .args .t2) (i + 1)) (c .before .holds-arg2 .given) in
-    let test : holds (a .args .relation) (arg (a .args .t2) i) (arg (a .args .t2) (i + 1)) ≡ b =
-    sym (rw (x, y) at (c .holds .ensures)) ∙ e in
-    c .before .before .before .before .loop .inv .1
-    ∙ chain-step (a .args .t2) (a .args .count) (a .good .1 .0 .1 .0 .1) (a .pre .1) (holds (a .args .relation)) i (c .before .before .before .loop-test .taken)
-    ∙ ap (λ (t : Bool). t && chain (holds (a .args .relation)) (drop (i + 1) (counted (a .args .t2) (a .args .count)))) test
+μ-loop relation count args all₀ i₀ all i = count - i
 
 loop-holds : tie.Need-loop-holds Inv-loop μ-loop
 loop-holds c = (omega arith, refl)
@@ -62,9 +47,6 @@ array-copy-out-holds-2 c = omega arith
 holds-requires : tie.Need-holds-requires Inv-loop μ-loop
 holds-requires c κs = search needs
 
-returns : tie.Need-returns Inv-loop μ-loop
-returns c = sym (turn (c .before) false (not-true _ (c .if1 .taken)))
-
 add-i : tie.Need-add-i Inv-loop μ-loop
 add-i c = omega arith
 
@@ -72,13 +54,30 @@ loop-less : tie.Need-loop-less Inv-loop μ-loop
 loop-less c = omega arith
 
 loop-again : tie.Need-loop-again Inv-loop μ-loop
-loop-again c = (omega arith, turn (c .before) true (not-false _ (c .if1 .left)))
+unfolding arg
+loop-again c =
+    let a = c .before .before .before .before .before in
+    let l = c .before .before .before .before .loop in
+    let x = back-word (arg (a .args .t2) (l .i)) (c .before .before .holds-arg .given) in
+    let y = back-word (arg (a .args .t2) (l .i + 1)) (c .before .holds-arg2 .given) in
+    let test : holds (a .args .relation) (arg (a .args .t2) (l .i)) (arg (a .args .t2) (l .i + 1)) ≡ c .holds .result =
+    sym (rw (x, y) at (c .holds .ensures)) in (
+      omega arith,
+      l .inv .1
+          ∙ ap (λ (t : Bool). l .all && t)
+          (chain-step (a .args .t2) (a .args .count) (a .good .1 .0 .1 .0 .1) (a .pre .1) (holds (a .args .relation)) (l .i) (c .before .before .before .loop-test .taken)
+          ∙ ap (λ (t : Bool). t && chain (holds (a .args .relation)) (drop (l .i + 1) (counted (a .args .t2) (a .args .count)))) test)
+          ∙ sym (and-assoc (l .all) (c .holds .result) (chain (holds (a .args .relation)) (drop (l .i + 1) (counted (a .args .t2) (a .args .count))))),
+    )
 
-returns-2 : tie.Need-returns-2 Inv-loop μ-loop
-returns-2 c =
+returns : tie.Need-returns Inv-loop μ-loop
+returns c =
     let a = c .before .before in
-    sym (c .before .loop .inv .1
-    ∙ chain-last (a .args .t2) (a .args .count) (a .good .1 .0 .1 .0 .1) (a .pre .1) (holds (a .args .relation)) (c .before .loop .i) (c .before .loop .inv .0) (c .loop-test .left))
+    let l = c .before .loop in
+    sym (l .inv .1
+    ∙ ap (λ (t : Bool). l .all && t)
+    (chain-last (a .args .t2) (a .args .count) (a .good .1 .0 .1 .0 .1) (a .pre .1) (holds (a .args .relation)) (l .i) (l .inv .0) (c .loop-test .left))
+    ∙ and-true (l .all))
 
 pub chain-spec : {M : Type 1} → statement M
 chain-spec =
@@ -94,8 +93,7 @@ chain-spec =
     mul-holds-2
     array-copy-out-holds-2
     holds-requires
-    returns
     add-i
     loop-less
     loop-again
-    returns-2)
+    returns)

@@ -13,7 +13,7 @@ use Rattle.fixnum.specs.Domains.{arg}
 use Rattle.fixnum.specs.Operations.{foldFrom}
 use Rattle.fixnum.specs.Steps.{step}
 use Rattle.fixnum.specs.Calls.{counted}
-use Rattle.fixnum.proofs.LoopLaws.{fold-step, rest-none}
+use Rattle.fixnum.proofs.LoopLaws.{fold-step, fold-two, rest-none}
 use Rattle.fixnum.proofs.loops.fold_all.Statement.{statement}
 use Rattle.fixnum.proofs.loops.fold_all.Tie as tie
 
@@ -25,17 +25,44 @@ Inv-loop fold first count args value₀ i₀ value i =
 abbrev μ-loop : tie.MeasureT-loop
 μ-loop fold first count args value₀ i₀ value i = count - i
 
+array-copy-out-combine : tie.Need-array-copy-out-combine Inv-loop μ-loop
+array-copy-out-combine c = search needs
+
+combine-requires : tie.Need-combine-requires Inv-loop μ-loop
+combine-requires c κs = search needs
+
+array-copy-out-combine-2 : tie.Need-array-copy-out-combine-2 Inv-loop μ-loop
+array-copy-out-combine-2 c = search needs
+
+combine-requires-2 : tie.Need-combine-requires-2 Inv-loop μ-loop
+combine-requires-2 c κs = search needs
+
+returns : tie.Need-returns Inv-loop μ-loop
+unfolding arg
+returns c =
+    let v = c .before .before in
+    let a = v .before .before .before in
+    let x = back-word (arg (a .args .t3) 0) (v .before .combine-arg .given) in
+    let y = back-word (arg (a .args .t3) 1) (c .before .combine-arg2 .given) in
+    let one : v .combine .result ≡ step (a .args .fold) (a .args .first) (arg (a .args .t3) 0) = rw (back (a .fits .first), x) at (v .combine .ensures) in
+    let two : c .combine2 .result ≡ step (a .args .fold) (v .combine .result) (arg (a .args .t3) 1) =
+    rw (back-word (v .combine .result) (v .combine .ok), y) at (c .combine2 .ensures) in
+    back-word (c .combine2 .result) (c .combine2 .ok)
+    ∙ two
+    ∙ ap (λ (z : ℤ). step (a .args .fold) z (arg (a .args .t3) 1)) one
+    ∙ sym (fold-two (a .args .t3) (a .args .count) (a .good .1 .1 .0 .1 .0 .1) (a .pre) (step (a .args .fold)) (a .args .first) (v .before .before .if1 .taken))
+
 loop-holds : tie.Need-loop-holds Inv-loop μ-loop
 loop-holds c = (omega arith, refl)
 
 mul-combine : tie.Need-mul-combine Inv-loop μ-loop
 mul-combine c = omega arith
 
-array-copy-out-combine : tie.Need-array-copy-out-combine Inv-loop μ-loop
-array-copy-out-combine c = omega arith
+array-copy-out-combine-3 : tie.Need-array-copy-out-combine-3 Inv-loop μ-loop
+array-copy-out-combine-3 c = omega arith
 
-combine-requires : tie.Need-combine-requires Inv-loop μ-loop
-combine-requires c κs = search needs
+combine-requires-3 : tie.Need-combine-requires-3 Inv-loop μ-loop
+combine-requires-3 c κs = search needs
 
 add-i : tie.Need-add-i Inv-loop μ-loop
 add-i c = omega arith
@@ -46,21 +73,21 @@ loop-less c = omega arith
 loop-again : tie.Need-loop-again Inv-loop μ-loop
 unfolding arg
 loop-again c =
-    let a = c .before .before .before .before in
+    let a = c .before .before .before .before .before in
     let l = c .before .before .before .loop in
-    let next : step (a .args .fold) (toZ w64 (l .value)) (arg (a .args .t3) (l .i)) ≡ toZ w64 (ofZ w64 (c .combine .result)) =
-    sym (back-word (c .combine .result) (c .combine .ok)
-    ∙ (rw (back-word (arg (a .args .t3) (l .i)) (c .before .combine-arg .given)) at (c .combine .ensures))) in (
+    let next : step (a .args .fold) (toZ w64 (l .value)) (arg (a .args .t3) (l .i)) ≡ toZ w64 (ofZ w64 (c .combine3 .result)) =
+    sym (back-word (c .combine3 .result) (c .combine3 .ok)
+    ∙ (rw (back-word (arg (a .args .t3) (l .i)) (c .before .combine-arg3 .given)) at (c .combine3 .ensures))) in (
       omega arith,
       l .inv .1
           ∙ fold-step (a .args .t3) (a .args .count) (a .good .1 .1 .0 .1 .0 .1) (a .pre) (step (a .args .fold)) (toZ w64 (l .value)) (l .i) (c .before .before .loop-test .taken)
           ∙ ap (λ (v : ℤ). foldFrom (step (a .args .fold)) v (drop (l .i + 1) (counted (a .args .t3) (a .args .count)))) next,
     )
 
-returns : tie.Need-returns Inv-loop μ-loop
+returns-2 : tie.Need-returns-2 Inv-loop μ-loop
 unfolding foldFrom
-returns c =
-    let a = c .before .before in
+returns-2 c =
+    let a = c .before .before .before in
     let l = c .before .loop in
     sym (ap (λ (v : ℤ). foldFrom (step (a .args .fold)) v (counted (a .args .t3) (a .args .count))) (sym (back (a .fits .first)))
     ∙ l .inv .1
@@ -72,11 +99,16 @@ fold-all-spec =
     (tie.spec
     Inv-loop
     μ-loop
-    loop-holds
-    mul-combine
     array-copy-out-combine
     combine-requires
+    array-copy-out-combine-2
+    combine-requires-2
+    returns
+    loop-holds
+    mul-combine
+    array-copy-out-combine-3
+    combine-requires-3
     add-i
     loop-less
     loop-again
-    returns)
+    returns-2)

@@ -1,11 +1,22 @@
 -- `words::parts::high_part` meets its contract. Assumes nothing.
-use mathlib.Core.Path.{sym, _∙_}
+use Prim.Native.Nat.{_+_, _<_, _^_}
 use native.Mathlib.Omega.{arith}
+use mathlib.Core.Path.{_∙_}
+use mathlib.Core.Bool.{not}
+use mir.Val.{boolByte}
 use Rattle.bits.proofs.WordLaws.{back}
-use Rattle.words.proofs.PartLaws.{high-near, high-far, quotient-lt, small-fits}
+use Rattle.words.proofs.PartLaws.{high-either, one-more, quotient-lt, small-fits}
 use borrow.Author.Needs.{needs}
 use Rattle.words.proofs.parts.high_part.Statement.{statement}
 use Rattle.words.proofs.parts.high_part.Tie as tie
+
+-- the quotient, and one more
+sum-lt : (c : tie.After-absolute-fits) → c .before .before .quotient .result + boolByte (not (c .absolute-fits .result)) < 2 ^ 63
+sum-lt c =
+    let a = c .before .before .before in
+    let e = c .before .before .quotient .ensures in
+    let l = quotient-lt (a .args .width) (a .args .s) (a .pre .1) in
+    one-more (not (c .absolute-fits .result)) (c .before .before .quotient .result) (omega arith)
 
 quotient-requires : tie.Need-quotient-requires
 quotient-requires c κs = search needs
@@ -16,42 +27,22 @@ remainder-requires c κs = search needs
 absolute-fits-requires : tie.Need-absolute-fits-requires
 absolute-fits-requires c κs = search needs
 
-from-absolute-requires : tie.Need-from-absolute-requires
-from-absolute-requires c κs =
-    let a = c .before .before .before .before in
-    let e = c .before .before .before .quotient .ensures in
-    let l = quotient-lt (a .args .width) (a .args .s) (a .pre .1) in
-    small-fits _ _ (omega arith)
+cast-from-absolute : tie.Need-cast-from-absolute
+cast-from-absolute c = search needs
 
 add-from-absolute : tie.Need-add-from-absolute
-add-from-absolute c =
-    let a = c .before .before .before .before in
-    let e = c .before .before .before .quotient .ensures in
-    let l = quotient-lt (a .args .width) (a .args .s) (a .pre .1) in
-    record { fits = omega arith }
+add-from-absolute c = let l = sum-lt c in record { fits = omega arith }
 
-from-absolute-requires-2 : tie.Need-from-absolute-requires-2
-from-absolute-requires-2 c κs =
-    let a = c .before .before .before .before in
-    let e = c .before .before .before .quotient .ensures in
-    let l = quotient-lt (a .args .width) (a .args .s) (a .pre .1) in
-    small-fits _ _ (omega arith)
+from-absolute-requires : tie.Need-from-absolute-requires
+from-absolute-requires c κs = small-fits _ _ (sum-lt c)
 
 returns : tie.Need-returns
 returns c =
-    let a = c .before .before .before .before .before in
+    let t = c .before in
+    let a = t .before .before .before in
     back (record { sfits = c .from-absolute .ok })
     ∙ c .from-absolute .ensures
-    ∙ high-near (a .args .width) (a .args .s) _ (a .pre .0 .0) (c .before .before .before .remainder .ensures)
-    (sym (c .before .before .absolute-fits .ensures) ∙ c .before .if1 .taken) _ (c .before .before .before .before .quotient .ensures)
-
-returns-2 : tie.Need-returns-2
-returns-2 c =
-    let a = c .before .before .before .before .before in
-    back (record { sfits = c .from-absolute2 .ok })
-    ∙ c .from-absolute2 .ensures
-    ∙ high-far (a .args .width) (a .args .s) _ (a .pre .0 .0) (c .before .before .before .remainder .ensures)
-    (sym (c .before .before .absolute-fits .ensures) ∙ c .before .if1 .left) _ (c .before .before .before .before .quotient .ensures)
+    ∙ high-either (a .args .width) (a .args .s) _ (a .pre .0 .0) (t .before .remainder .ensures) _ (t .absolute-fits .ensures) _ (t .before .before .quotient .ensures)
 
 pub high-part-spec : {M : Type 1} → statement M
 high-part-spec =
@@ -60,8 +51,7 @@ high-part-spec =
     quotient-requires
     remainder-requires
     absolute-fits-requires
-    from-absolute-requires
+    cast-from-absolute
     add-from-absolute
-    from-absolute-requires-2
-    returns
-    returns-2)
+    from-absolute-requires
+    returns)

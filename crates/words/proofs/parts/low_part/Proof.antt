@@ -14,57 +14,60 @@ use Rattle.words.proofs.parts.low_part.Tie as tie
 remainder-requires : tie.Need-remainder-requires
 remainder-requires c κs = search needs
 
+power-requires : tie.Need-power-requires
+power-requires c κs = search needs
+
+sub-rest : tie.Need-sub-rest
+sub-rest c =
+    let a = c .before .before in
+    let e = c .before .remainder .ensures in
+    let d = c .power .ensures in
+    let l = mod-lt (natAbs (wideValue (a .args .s))) (pow-pos (a .args .width)) in
+    omega arith
+
 absolute-fits-requires : tie.Need-absolute-fits-requires
 absolute-fits-requires c κs = search needs
 
 from-absolute-requires : tie.Need-from-absolute-requires
 from-absolute-requires c κs =
-    let a = c .before .before .before in
+    let a = c .before .before .before .before in
     fits-wider (a .args .width) 64 _ (omega arith) (sym (c .before .absolute-fits .ensures) ∙ c .if1 .taken)
-
-power-requires : tie.Need-power-requires
-power-requires c κs = search needs
-
-sub-from-absolute : tie.Need-sub-from-absolute
-sub-from-absolute c =
-    let a = c .before .before .before .before .before in
-    let e = c .before .before .before .before .remainder .ensures in
-    let d = c .power .ensures in
-    let l = mod-lt (natAbs (wideValue (a .args .s))) (pow-pos (a .args .width)) in
-    omega arith
 
 from-absolute-requires-2 : tie.Need-from-absolute-requires-2
 from-absolute-requires-2 c κs =
-    let a = c .before .before .before .before .before in
+    let p = c .before .before .before in
+    let a = p .before .before in
     fits-wider (a .args .width) 64 _ (omega arith)
-    (low-far-fits (a .args .width) (a .args .s) _ (a .pre .0) (c .before .before .before .before .remainder .ensures)
-    (sym (c .before .before .before .absolute-fits .ensures) ∙ c .before .before .if1 .left) _ (c .power .ensures))
+    (low-far-fits (a .args .width) (a .args .s) _ (a .pre .0) (p .before .remainder .ensures)
+    (sym (c .before .before .absolute-fits .ensures) ∙ c .before .if1 .left) _ (p .power .ensures))
 
 returns : tie.Need-returns
 returns c =
-    let a = c .before .before .before .before in
+    let p = c .before .before .before in
+    let a = p .before .before in
     back (record { sfits = c .from-absolute .ok })
     ∙ c .from-absolute .ensures
-    ∙ low-near (a .args .width) (a .args .s) _ (a .pre .0) (c .before .before .before .remainder .ensures)
+    ∙ low-near (a .args .width) (a .args .s) _ (a .pre .0) (p .before .remainder .ensures)
     (sym (c .before .before .absolute-fits .ensures) ∙ c .before .if1 .taken)
 
 returns-2 : tie.Need-returns-2
 returns-2 c =
-    let a = c .before .before .before .before .before .before in
+    let p = c .before .before .before .before in
+    let a = p .before .before in
     back (record { sfits = c .from-absolute2 .ok })
     ∙ c .from-absolute2 .ensures
-    ∙ low-far (a .args .width) (a .args .s) _ (a .pre .0) (c .before .before .before .before .before .remainder .ensures)
-    (sym (c .before .before .before .before .absolute-fits .ensures) ∙ c .before .before .before .if1 .left) _ (c .before .power .ensures)
+    ∙ low-far (a .args .width) (a .args .s) _ (a .pre .0) (p .before .remainder .ensures)
+    (sym (c .before .before .before .absolute-fits .ensures) ∙ c .before .before .if1 .left) _ (p .power .ensures)
 
 pub low-part-spec : {M : Type 1} → statement M
 low-part-spec =
     tie.close
     (tie.spec
     remainder-requires
+    power-requires
+    sub-rest
     absolute-fits-requires
     from-absolute-requires
-    power-requires
-    sub-from-absolute
     from-absolute-requires-2
     returns
     returns-2)

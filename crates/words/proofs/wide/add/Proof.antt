@@ -9,8 +9,6 @@ use borrow.Author.Needs.{needs}
 use Rattle.words.proofs.wide.add.Statement.{statement}
 use Rattle.words.proofs.wide.add.Tie as tie
 
--- `words::wide::add` meets its contract. Assumes nothing.
-
 grow-requires : tie.Need-grow-requires
 grow-requires c κs = search needs
 
@@ -19,13 +17,13 @@ shrink-requires c κs = search needs
 
 returns : tie.Need-returns
 returns c =
-    let a = c .before .before .before .args in
-    c .grow .ensures ∙ ap (λ (b : Bool). wideValue (a .s) +ℤ withSign b (a .n)) (signs-same (a .s .negative) (a .negative) (c .before .if1 .taken))
+    let a = c .before .before .before .before .args in
+    c .before .before .before .grow .ensures ∙ ap (λ (b : Bool). wideValue (a .s) +ℤ withSign b (a .n)) (signs-same (a .s .negative) (a .negative) (c .if1 .taken))
 
 returns-2 : tie.Need-returns-2
 returns-2 c =
-    let a = c .before .before .before .args in
-    c .shrink .ensures ∙ ap (λ (b : Bool). wideValue (a .s) +ℤ withSign b (a .n)) (signs-differ (a .s .negative) (a .negative) (c .before .if1 .left))
+    let a = c .before .before .before .before .args in
+    c .before .before .shrink .ensures ∙ ap (λ (b : Bool). wideValue (a .s) +ℤ withSign b (a .n)) (signs-differ (a .s .negative) (a .negative) (c .if1 .left))
 
 pub add-spec : {M : Type 1} → statement M
 add-spec = tie.close (tie.spec grow-requires shrink-requires returns returns-2)
