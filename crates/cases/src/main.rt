@@ -1,34 +1,20 @@
 // The cases that document 01 has a program run: each line has a call and its answer.
-use words::sign::absolute;
-use words::sign::is_negative;
-
-fn print(text: &[u8]) {
-    io::write_all(1, text);
-}
-
-fn print_natural(n: u64) {
-    io::print_decimal(1, n);
-}
-
-fn print_integer(n: i64) {
-    if is_negative(n) {
-        print(b"-");
-    }
-    print_natural(absolute(n));
-}
+use output::print;
+use output::print_decimal;
+use output::print_natural;
 
 fn print_shift(x: i64, distance: i64) {
     print(b": shift ");
-    print_integer(x);
+    print_decimal(x);
     print(b" by ");
-    print_integer(distance);
+    print_decimal(distance);
 }
 
 // The end of a line: a refusal, or an integer where the refusal is 0.
 fn print_answer(refusal: u64, n: i64) {
     if refusal == 0 {
         print(b" is ");
-        print_integer(n);
+        print_decimal(n);
     } else {
         print(b" is refused ");
         print_natural(refusal);
