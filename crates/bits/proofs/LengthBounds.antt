@@ -19,13 +19,10 @@ use Rattle.bits.proofs.FieldWords.{setField-lt}
 -- ---- right shifts
 
 -- a right shift is shorter by k, or of length 0
-shiftRight-length-sub : (x : ℤ) (k : ℕ) → bitLength (shiftRight x k) ≤ bitLength x - k
+pub shiftRight-length-sub : (x : ℤ) (k : ℕ) → bitLength (shiftRight x k) ≤ bitLength x - k
 shiftRight-length-sub x k =
     bitLength-least-bits (shiftRight x k) (bitLength x - k) (λ i l.
     testbit-shiftRight x k i ∙ testbit-above x (k + i) (omega arith) ∙ sym (isNegative-shiftRight x k))
-
-pub shiftRight-length : (x : ℤ) (k : ℕ) → bitLength (shiftRight x k) ≤ bitLength x
-shiftRight-length x k = omega (arith, shiftRight-length-sub x k)
 
 -- from the length on, every shift gives the sign
 pub shiftRight-beyond : (x : ℤ) (j k : ℕ) → bitLength x ≤ j → j ≤ k → shiftRight x k ≡ shiftRight x j

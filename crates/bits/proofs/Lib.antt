@@ -17,6 +17,7 @@ pub mod FieldAlgebra
 pub mod RotateLaws
 pub mod FieldWords
 pub mod RotateWords
+pub mod SwapLaws
 pub mod Locality
 pub mod CountLaws
 pub mod CountWords

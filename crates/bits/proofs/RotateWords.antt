@@ -1,13 +1,12 @@
 -- A field rotated and reversed as a number, by the digits of that number. Assumes nothing.
 use mathlib.Core.Path.{_≡_, refl, sym, _∙_, ap, subst}
 use mathlib.Core.Bool.{Bool, cond, _&&_}
-use Prim.Native.Nat.{ℕ, zero, suc, _+_, _*_, _-_, _/_, _%_, _^_, _≤_, _<_}
-use native.Mathlib.Nat.{pow-suc, mod-lt, mod-eq-of-lt, zero-add, lt-of-lt-of-le}
+use Prim.Native.Nat.{ℕ, suc, _+_, _*_, _-_, _/_, _%_, _^_, _≤_, _<_}
+use native.Mathlib.Nat.{mod-lt, mod-eq-of-lt, zero-add, lt-of-lt-of-le}
 use native.Mathlib.Omega.{arith}
-use lib.Dec.{ltb}
 use lib.Pow.{pow-pos, pow-mono, shr-lt}
 use lib.IntN.{ℤ, pos}
-use borrow.Author.Tests.{lt-ltb, le-ltb}
+use borrow.Author.Tests.{lt-ltb}
 use Rattle.bits.specs.Testbit.{isNegative, testbit}
 use Rattle.bits.specs.Shift.{shiftRight}
 use Rattle.bits.specs.Division.{modℕ, «mod»}
@@ -124,53 +123,9 @@ rotate-digits v size c h k =
     (λ l. testbit-mod-lt v (size - c) (j - c) (omega arith) ∙ ap (testbit (pos v)) (sym (rotate-high size c j l u))))
     ∙ ap (λ (n : ℕ). permuteField (rotateIndex n (pos c)) (pos v) 0 size) (sym (whole size))
 
--- the low k digits of v in the opposite order, below those of r
-abbrev pub reverseDigits : ℕ → ℕ → ℕ → ℕ
-reverseDigits zero v r = r
-reverseDigits (suc k) v r = reverseDigits k (v / 2) (r * 2 + v % 2)
-
-testbit-reverseDigits : (k v r i : ℕ)
-    → testbit (pos (reverseDigits k v r)) i ≡ cond (ltb i k) (testbit (pos v) (k - suc i)) (testbit (pos r) (i - k))
-testbit-reverseDigits zero v r i =
-    by-lt (λ b. testbit (pos r) i ≡ cond b (testbit (pos v) (0 - suc i)) (testbit (pos r) (i - 0))) i 0 (λ l. absurd (omega arith))
-    (λ l. let e : i ≡ i - 0 = omega arith in ap (testbit (pos r)) e)
-testbit-reverseDigits (suc k) v r i =
-    testbit-reverseDigits k (v / 2) (r * 2 + v % 2) i
-    ∙ by-lt
-    (λ b. cond b (testbit (pos (v / 2)) (k - suc i)) (testbit (pos (r * 2 + v % 2)) (i - k))
-    ≡ cond (ltb i (suc k)) (testbit (pos v) (suc k - suc i)) (testbit (pos r) (i - suc k)))
-    i k
-    (λ l. testbit-div v 1 (k - suc i)
-    ∙ (let e : 1 + (k - suc i) ≡ suc k - suc i = omega arith in ap (testbit (pos v)) e)
-    ∙ sym (pick (lt-ltb i (suc k) (omega arith))))
-    (λ l. testbit-digits r (v % 2) 1 (i - k) (mod-lt v (omega arith))
-    ∙ by-lt
-    (λ b. cond b (testbit (pos (v % 2)) (i - k)) (testbit (pos r) (i - k - 1))
-    ≡ cond (ltb i (suc k)) (testbit (pos v) (suc k - suc i)) (testbit (pos r) (i - suc k)))
-    (i - k) 1
-    (λ z. testbit-mod-lt v 1 (i - k) z
-    ∙ (let e : i - k ≡ suc k - suc i = omega arith in ap (testbit (pos v)) e)
-    ∙ sym (pick (lt-ltb i (suc k) (omega arith))))
-    (λ z. (let e : i - k - 1 ≡ i - suc k = omega arith in ap (testbit (pos r)) e) ∙ sym (pick (le-ltb i (suc k) (omega arith)))))
-  where
-    pick : {b : Bool} → ltb i (suc k) ≡ b
-        → cond (ltb i (suc k)) (testbit (pos v) (suc k - suc i)) (testbit (pos r) (i - suc k))
-        ≡ cond b (testbit (pos v) (suc k - suc i)) (testbit (pos r) (i - suc k))
-    pick e = ap (λ (b : Bool). cond b (testbit (pos v) (suc k - suc i)) (testbit (pos r) (i - suc k))) e
-
-reverseDigits-lt : (k v r t : ℕ) → r < 2 ^ t → reverseDigits k v r < 2 ^ (t + k)
-reverseDigits-lt zero v r t h = let e : t ≡ t + 0 = omega arith in subst (λ (n : ℕ). r < 2 ^ n) e h
-reverseDigits-lt (suc k) v r t h =
-    let e : suc t + k ≡ t + suc k = omega arith in
-    subst (λ (n : ℕ). reverseDigits k (v / 2) (r * 2 + v % 2) < 2 ^ n) e
-    (reverseDigits-lt k (v / 2) (r * 2 + v % 2) (suc t) (omega (arith, pow-suc 2 t)))
-
-pub reverse-digits : (v size : ℕ) → v < 2 ^ size → pos (reverseDigits size v 0) ≡ reverseBitField (pos v) 0 size
+-- a number below 2^size that has the bits of v in the opposite order
+pub reverse-bits : (n v size : ℕ) → n < 2 ^ size → v < 2 ^ size → ((j : ℕ) → j < size → testbit (pos n) j ≡ testbit (pos v) (size - suc j))
+    → pos n ≡ reverseBitField (pos v) 0 size
 unfolding reverseBitField reverseIndex
-reverse-digits v size h =
-    permuted (reverseIndex size) (reverseDigits size v 0) v size
-    (subst (λ (n : ℕ). reverseDigits size v 0 < 2 ^ n) (zero-add size) (reverseDigits-lt size v 0 0 (omega arith)))
-    h
-    (λ j u. testbit-reverseDigits size v 0 j
-    ∙ ap (λ (b : Bool). cond b (testbit (pos v) (size - suc j)) (testbit (pos 0) (j - size))) (lt-ltb j size u))
-    ∙ ap (λ (n : ℕ). permuteField (reverseIndex n) (pos v) 0 size) (sym (whole size))
+reverse-bits n v size h l e =
+    permuted (reverseIndex size) n v size h l e ∙ ap (λ (k : ℕ). permuteField (reverseIndex k) (pos v) 0 size) (sym (whole size))

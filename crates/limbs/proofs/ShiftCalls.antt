@@ -13,15 +13,15 @@ use borrow.Author.Tests.{le-leb, lt-leb}
 use Rattle.bits.specs.Testbit.{bitLength}
 use Rattle.bits.specs.Shift.{shiftLeft, shiftRight, arithmeticShift}
 use Rattle.bits.specs.Division.{modℕ}
-use Rattle.bits.proofs.TestbitLaws.{by-lt, testbit-above, testbit-shiftRight, isNegative-shiftRight}
+use Rattle.bits.proofs.TestbitLaws.{by-lt}
 use Rattle.bits.proofs.ShiftLaws.{shiftRight-zero, shiftLeft-zero-l}
-use Rattle.bits.proofs.LengthLaws.{bitLength-le, bitLength-least-bits}
+use Rattle.bits.proofs.LengthLaws.{bitLength-le}
 use Rattle.limbwords.specs.Value.{value, bitsFrom, limbsOf, limbCount}
 use Rattle.limbs.specs.Buffer.{refused, integer, unless}
 use Rattle.limbs.specs.Inner.{Decides}
 use Rattle.limbs.specs.Operations.{mostLimbs, isOperand, operand, sized}
 use Rattle.limbwords.proofs.ValueLaws.{pos-injective, value-length, value-limbsOf, limbCount-le}
-use Rattle.bits.proofs.LengthBounds.{shiftRight-beyond, shiftLeft-length, shiftLeft-length-exact}
+use Rattle.bits.proofs.LengthBounds.{shiftRight-length-sub, shiftRight-beyond, shiftLeft-length, shiftLeft-length-exact}
 use Rattle.limbs.proofs.OutcomeLaws.{passed, failed, stage-passed}
 use Rattle.limbs.proofs.NumberLaws.{operand-lengths}
 use Rattle.limbs.proofs.StageLaws.{none-refused, operand-legal}
@@ -79,11 +79,7 @@ module _ (xs : List ℕ) (legal : isOperand xs ≡ true) where
 
   -- a right shift needs no limbs for those that it drops whole
   pub right-enough : (k m : ℕ) → 0 < m → length xs ≤ m + k / 32 → bitLength (shiftRight (value xs) k) < 32 * m
-  right-enough k m p h =
-      let v = value-length xs (legal-lengths .0) in
-      let l = bitLength-least-bits (shiftRight (value xs) k) (32 * m - 1) (λ i q.
-      testbit-shiftRight (value xs) k i ∙ testbit-above (value xs) (k + i) (omega arith) ∙ sym (isNegative-shiftRight (value xs) k)) in
-      omega arith
+  right-enough k m p h = omega (arith, shiftRight-length-sub (value xs) k, value-length xs (legal-lengths .0))
 
   pub left-enough : (k : ℕ) → bitLength (shiftLeft (value xs) k) < 32 * (length xs + k / 32 + 1)
   left-enough k = omega (arith, shiftLeft-length (value xs) k, value-length xs (legal-lengths .0))

@@ -23,7 +23,7 @@ returns : tie.Need-returns
 returns c =
     let b = c .before in
     let a = b .before .before .before in
-    testbit-reversed _ _ _ _ _ _ (a .swap .ensures) (b .before .before .swap2 .ensures) (b .before .swap3 .ensures) (b .swap4 .ensures) (c .swap5 .ensures)
+    testbit-reversed _ (a .swap .ensures) (b .before .before .swap2 .ensures) (b .before .swap3 .ensures) (b .swap4 .ensures) (c .swap5 .ensures)
 
 pub reverse-word-spec : {M : Type 1} → statement M
 reverse-word-spec =

@@ -26,7 +26,7 @@ returns : tie.Need-returns
 returns c =
     let e = c .before in
     let b = e .before .before .before in
-    testbit-reversed _ _ _ _ _ _ _ (b .before .swap .ensures) (b .swap2 .ensures) (e .before .before .swap3 .ensures) (e .before .swap4 .ensures) (e .swap5 .ensures) (c .swap6 .ensures)
+    testbit-reversed _ (b .before .swap .ensures) (b .swap2 .ensures) (e .before .before .swap3 .ensures) (e .before .swap4 .ensures) (e .swap5 .ensures) (c .swap6 .ensures)
 
 pub reverse-word-spec : {M : Type 1} → statement M
 reverse-word-spec =
