@@ -1,5 +1,5 @@
 -- The stages of an answer, passed one by one; and the answers to the codes that demand 3 speaks of. Assumes nothing.
-use Prim.Native.Nat.{ℕ, zero, zero-le, _-_, _≤_, _^_}
+use Prim.Native.Nat.{ℕ, zero-le, _-_, _≤_, _^_}
 use native.Mathlib.Nat.{le-trans, lt-of-le-of-lt}
 use native.Mathlib.Omega.{arith}
 use mathlib.Core.Path.{_≡_, refl, ap, _∙_, subst}

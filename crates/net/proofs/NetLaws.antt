@@ -2,7 +2,7 @@
 use Prim.Native.Nat.{ℕ, _+_, _-_, _%_, _≤_, _<_}
 use native.Mathlib.Omega.{arith}
 use native.Mathlib.Nat.{add-mod, mod-lt, mod-eq-of-lt, mod-eq-sub-mod, mod-self}
-use mathlib.Core.Path.{_≡_, refl, ap, sym, _∙_}
+use mathlib.Core.Path.{_≡_, ap, sym, _∙_}
 use lib.IntN.{ℤ, pos, _-ℤ_}
 use Rattle.bits.specs.Division.{modℕ, «mod»}
 use Rattle.bits.specs.FieldList.{countCall, rotate, reverse}

@@ -1,6 +1,5 @@
 // `ql list`: rotate and reverse calls on one field, one after the other.
 use super::argument::complain;
-use super::argument::is_given;
 use super::argument::is_word;
 use super::argument::number;
 use super::argument::print_word;

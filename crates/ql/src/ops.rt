@@ -1,5 +1,4 @@
 // `ql ops`: the table of operations.
-ghost use Rattle.io.specs.Counts.{Counts};
 use super::argument::complain;
 use super::argument::is_given;
 use super::bitwise_rules::arity;

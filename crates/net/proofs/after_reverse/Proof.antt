@@ -1,9 +1,8 @@
+-- `after_reverse`: one step of the net count. Assumes nothing.
 use native.Mathlib.Omega.{arith}
 use Rattle.net.proofs.NetLaws.{reverse-none, reverse-some}
 use Rattle.net.proofs.after_reverse.Statement.{statement}
 use Rattle.net.proofs.after_reverse.Tie as tie
-use Rattle.net.proofs.after_reverse.Reads as reads
-use Rattle.net.proofs.after_reverse.Lts as lts
 
 returns : tie.Need-returns
 returns c = λ h. reverse-none (c .before .args .size) (c .before .args .net) (omega arith)

@@ -1,7 +1,8 @@
+-- `after_rotate`: one step of the net count. Assumes nothing.
 use borrow.Author.Needs.{needs}
 use native.Mathlib.Omega.{arith}
 use native.Mathlib.Nat.{mod-lt}
-use Prim.Native.Nat.{_≤_, _<_, _%_}
+use Prim.Native.Nat.{_<_, _%_}
 use Rattle.net.proofs.NetLaws.{rotate-below, rotate-above}
 use Rattle.net.proofs.after_rotate.Statement.{statement}
 use Rattle.net.proofs.after_rotate.Tie as tie

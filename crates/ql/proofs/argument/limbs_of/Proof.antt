@@ -1,13 +1,8 @@
+-- `argument::limbs_of`: what `text::read_limbs` has put into the buffer lies within it. Assumes nothing.
 use borrow.Author.Needs.{needs}
 use Rattle.ql.proofs.TextCounts.{limbs-counted}
 use Rattle.ql.proofs.argument.limbs_of.Statement.{statement}
 use Rattle.ql.proofs.argument.limbs_of.Tie as tie
-use Rattle.ql.proofs.argument.limbs_of.Reads as reads
-use Rattle.ql.proofs.argument.limbs_of.Lts as lts
-use Rattle.os.proofs.arg.Reads as arg-reads
-use Rattle.ql.proofs.argument.complain.Reads as complain-reads
-use Rattle.ql.proofs.argument.word_space.Reads as word-space-reads
-use Rattle.text.proofs.read_limbs.Reads as read-limbs-reads
 
 word-space-requires : tie.Need-word-space-requires
 word-space-requires c κs = search needs

@@ -1,14 +1,9 @@
+-- `bitwise::answer_call`: the limbs of the result lie within the buffer. Assumes nothing.
 use borrow.Author.Needs.{needs}
 use mathlib.Core.Path.{sym}
 use lib.Seq.{length-take-le}
 use Rattle.ql.proofs.bitwise.answer_call.Statement.{statement}
 use Rattle.ql.proofs.bitwise.answer_call.Tie as tie
-use Rattle.ql.proofs.bitwise.answer_call.Reads as reads
-use Rattle.ql.proofs.bitwise.answer_call.Lts as lts
-use Rattle.ql.proofs.bitwise.call.Reads as call-reads
-use Rattle.ql.proofs.bitwise.print_limbs.Reads as print-limbs-reads
-use Rattle.ql.proofs.bitwise.result_space.Reads as result-space-reads
-use Rattle.ql.proofs.bitwise_rules.explain_bitwise.Reads as explain-bitwise-reads
 
 result-space-requires : tie.Need-result-space-requires
 result-space-requires c κs = search needs

@@ -1,22 +1,8 @@
+-- `bitwise::call`: each call has written limbs within the buffer. Assumes nothing.
 use borrow.Author.Needs.{needs}
 use Rattle.limbs.proofs.OutcomeLaws.{written-within}
 use Rattle.ql.proofs.bitwise.call.Statement.{statement}
 use Rattle.ql.proofs.bitwise.call.Tie as tie
-use Rattle.ql.proofs.bitwise.call.Reads as reads
-use Rattle.ql.proofs.bitwise.call.Lts as lts
-use Rattle.limbs.proofs.bitwise_and.Reads as bitwise-and-reads
-use Rattle.limbs.proofs.bitwise_bit_field.Reads as bitwise-bit-field-reads
-use Rattle.limbs.proofs.bitwise_copy_bit.Reads as bitwise-copy-bit-reads
-use Rattle.limbs.proofs.bitwise_copy_bit_field.Reads as bitwise-copy-bit-field-reads
-use Rattle.limbs.proofs.bitwise_if.Reads as bitwise-if-reads
-use Rattle.limbs.proofs.bitwise_ior.Reads as bitwise-ior-reads
-use Rattle.limbs.proofs.bitwise_not.Reads as bitwise-not-reads
-use Rattle.limbs.proofs.bitwise_reverse.Reads as bitwise-reverse-reads
-use Rattle.limbs.proofs.bitwise_rotate.Reads as bitwise-rotate-reads
-use Rattle.limbs.proofs.bitwise_shift.Reads as bitwise-shift-reads
-use Rattle.limbs.proofs.bitwise_shift_left.Reads as bitwise-shift-left-reads
-use Rattle.limbs.proofs.bitwise_shift_right.Reads as bitwise-shift-right-reads
-use Rattle.limbs.proofs.bitwise_xor.Reads as bitwise-xor-reads
 
 bitwise-not-requires : tie.Need-bitwise-not-requires
 bitwise-not-requires c κs = search needs

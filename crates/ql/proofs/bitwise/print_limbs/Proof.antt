@@ -1,14 +1,8 @@
+-- `bitwise::print_limbs`: the text of the result lies within its buffer. Assumes nothing.
 use borrow.Author.Needs.{needs}
 use Rattle.ql.proofs.TextCounts.{bytes-counted}
 use Rattle.ql.proofs.bitwise.print_limbs.Statement.{statement}
 use Rattle.ql.proofs.bitwise.print_limbs.Tie as tie
-use Rattle.ql.proofs.bitwise.print_limbs.Reads as reads
-use Rattle.ql.proofs.bitwise.print_limbs.Lts as lts
-use Rattle.limbs.proofs.to_word.Reads as to-word-reads
-use Rattle.output.proofs.print.Reads as print-reads
-use Rattle.output.proofs.print_decimal.Reads as print-decimal-reads
-use Rattle.ql.proofs.bitwise.text_space.Reads as text-space-reads
-use Rattle.text.proofs.spell_limbs.Reads as spell-limbs-reads
 
 to-word-requires : tie.Need-to-word-requires
 to-word-requires c κs = search needs

@@ -1,12 +1,9 @@
+-- `list::are_calls` is safe and ends. Assumes nothing.
 use borrow.Author.Needs.{needs}
 use native.Mathlib.Omega.{arith}
 use Prim.Native.Nat.{_-_}
 use Rattle.ql.proofs.list.are_calls.Statement.{statement}
 use Rattle.ql.proofs.list.are_calls.Tie as tie
-use Rattle.ql.proofs.list.are_calls.Reads as reads
-use Rattle.ql.proofs.list.are_calls.Lts as lts
-use Rattle.os.proofs.arg_count.Reads as arg-count-reads
-use Rattle.ql.proofs.list.is_call.Reads as is-call-reads
 
 abbrev Inv-loop : tie.InvT-loop
 Inv-loop n i₀ i = Unit {0}

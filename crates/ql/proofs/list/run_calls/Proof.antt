@@ -1,13 +1,9 @@
+-- `list::run_calls` is safe and ends. Assumes nothing.
 use borrow.Author.Needs.{needs}
 use native.Mathlib.Omega.{arith}
 use Prim.Native.Nat.{_-_}
 use Rattle.ql.proofs.list.run_calls.Statement.{statement}
 use Rattle.ql.proofs.list.run_calls.Tie as tie
-use Rattle.ql.proofs.list.run_calls.Reads as reads
-use Rattle.ql.proofs.list.run_calls.Lts as lts
-use Rattle.os.proofs.arg_count.Reads as arg-count-reads
-use Rattle.ql.proofs.list.print_end.Reads as print-end-reads
-use Rattle.ql.proofs.list.step.Reads as step-reads
 
 abbrev Inv-loop : tie.InvT-loop
 Inv-loop field x n state₀ i₀ state i = Unit {0}

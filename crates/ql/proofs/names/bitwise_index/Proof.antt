@@ -1,11 +1,9 @@
+-- `names::bitwise_index` is safe and ends. Assumes nothing.
 use borrow.Author.Needs.{needs}
 use native.Mathlib.Omega.{arith}
 use Prim.Native.Nat.{_-_}
 use Rattle.ql.proofs.names.bitwise_index.Statement.{statement}
 use Rattle.ql.proofs.names.bitwise_index.Tie as tie
-use Rattle.ql.proofs.names.bitwise_index.Reads as reads
-use Rattle.ql.proofs.names.bitwise_index.Lts as lts
-use Rattle.ql.proofs.names.is_bitwise_name.Reads as is-bitwise-name-reads
 
 abbrev Inv-loop : tie.InvT-loop
 Inv-loop word index₀ index = Unit {0}

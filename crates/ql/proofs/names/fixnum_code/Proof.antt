@@ -1,11 +1,9 @@
+-- `names::fixnum_code` is safe and ends. Assumes nothing.
 use borrow.Author.Needs.{needs}
 use native.Mathlib.Omega.{arith}
 use Prim.Native.Nat.{_-_}
 use Rattle.ql.proofs.names.fixnum_code.Statement.{statement}
 use Rattle.ql.proofs.names.fixnum_code.Tie as tie
-use Rattle.ql.proofs.names.fixnum_code.Reads as reads
-use Rattle.ql.proofs.names.fixnum_code.Lts as lts
-use Rattle.ql.proofs.names.is_fixnum_name.Reads as is-fixnum-name-reads
 
 abbrev Inv-loop : tie.InvT-loop
 Inv-loop word code₀ code = Unit {0}

@@ -1,11 +1,10 @@
+-- `names::same` is safe and ends. Assumes nothing.
 use borrow.Author.Needs.{needs}
 use native.Mathlib.Omega.{arith}
 use Prim.Native.Nat.{_-_, _≤_}
 use lib.ListN.{length}
 use Rattle.ql.proofs.names.same.Statement.{statement}
 use Rattle.ql.proofs.names.same.Tie as tie
-use Rattle.ql.proofs.names.same.Reads as reads
-use Rattle.ql.proofs.names.same.Lts as lts
 
 abbrev Inv-loop : tie.InvT-loop
 Inv-loop a b i₀ i = i ≤ length a

@@ -1,11 +1,9 @@
+-- `ops::print_bitwise_rows` is safe and ends. Assumes nothing.
 use borrow.Author.Needs.{needs}
 use native.Mathlib.Omega.{arith}
 use Prim.Native.Nat.{_-_}
 use Rattle.ql.proofs.ops.print_bitwise_rows.Statement.{statement}
 use Rattle.ql.proofs.ops.print_bitwise_rows.Tie as tie
-use Rattle.ql.proofs.ops.print_bitwise_rows.Reads as reads
-use Rattle.ql.proofs.ops.print_bitwise_rows.Lts as lts
-use Rattle.ql.proofs.ops.print_bitwise_row.Reads as print-bitwise-row-reads
 
 abbrev Inv-loop : tie.InvT-loop
 Inv-loop index₀ index = Unit {0}

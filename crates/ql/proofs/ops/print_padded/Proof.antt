@@ -1,11 +1,9 @@
+-- `ops::print_padded` is safe and ends. Assumes nothing.
 use borrow.Author.Needs.{needs}
 use native.Mathlib.Omega.{arith}
 use Prim.Native.Nat.{_-_}
 use Rattle.ql.proofs.ops.print_padded.Statement.{statement}
 use Rattle.ql.proofs.ops.print_padded.Tie as tie
-use Rattle.ql.proofs.ops.print_padded.Reads as reads
-use Rattle.ql.proofs.ops.print_padded.Lts as lts
-use Rattle.output.proofs.print.Reads as print-reads
 
 abbrev Inv-loop : tie.InvT-loop
 Inv-loop text column n₀ t4 n = Unit {0}

@@ -1,15 +1,9 @@
+-- `ops::run` is safe and ends. Assumes nothing.
 use borrow.Author.Needs.{needs}
 use native.Mathlib.Omega.{arith}
 use Prim.Native.Nat.{_-_}
 use Rattle.ql.proofs.ops.run.Statement.{statement}
 use Rattle.ql.proofs.ops.run.Tie as tie
-use Rattle.ql.proofs.ops.run.Reads as reads
-use Rattle.ql.proofs.ops.run.Lts as lts
-use Rattle.output.proofs.print.Reads as print-reads
-use Rattle.ql.proofs.argument.complain.Reads as complain-reads
-use Rattle.ql.proofs.argument.is_given.Reads as is-given-reads
-use Rattle.ql.proofs.ops.print_bitwise_rows.Reads as print-bitwise-rows-reads
-use Rattle.ql.proofs.ops.print_fixnum_row.Reads as print-fixnum-row-reads
 
 abbrev Inv-loop : tie.InvT-loop
 Inv-loop code₀ t4 code = Unit {0}

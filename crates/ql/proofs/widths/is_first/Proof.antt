@@ -1,11 +1,9 @@
+-- `widths::is_first` is safe and ends. Assumes nothing.
 use borrow.Author.Needs.{needs}
 use native.Mathlib.Omega.{arith}
 use Prim.Native.Nat.{_-_}
 use Rattle.ql.proofs.widths.is_first.Statement.{statement}
 use Rattle.ql.proofs.widths.is_first.Tie as tie
-use Rattle.ql.proofs.widths.is_first.Reads as reads
-use Rattle.ql.proofs.widths.is_first.Lts as lts
-use Rattle.ql.proofs.widths.agree.Reads as agree-reads
 
 abbrev Inv-loop : tie.InvT-loop
 Inv-loop request width v₀ v = Unit {0}

@@ -1,11 +1,9 @@
+-- `widths::last_of_run` is safe and ends. Assumes nothing.
 use borrow.Author.Needs.{needs}
 use native.Mathlib.Omega.{arith}
 use Prim.Native.Nat.{_-_, _≤_}
 use Rattle.ql.proofs.widths.last_of_run.Statement.{statement}
 use Rattle.ql.proofs.widths.last_of_run.Tie as tie
-use Rattle.ql.proofs.widths.last_of_run.Reads as reads
-use Rattle.ql.proofs.widths.last_of_run.Lts as lts
-use Rattle.ql.proofs.widths.agree.Reads as agree-reads
 
 abbrev Inv-loop : tie.InvT-loop
 Inv-loop request width v last₀ last = (v ≤ last) × (last ≤ 62)

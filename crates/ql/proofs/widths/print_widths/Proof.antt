@@ -1,11 +1,9 @@
+-- `widths::print_widths` is safe and ends. Assumes nothing.
 use borrow.Author.Needs.{needs}
 use native.Mathlib.Omega.{arith}
 use Prim.Native.Nat.{_-_}
 use Rattle.ql.proofs.widths.print_widths.Statement.{statement}
 use Rattle.ql.proofs.widths.print_widths.Tie as tie
-use Rattle.ql.proofs.widths.print_widths.Reads as reads
-use Rattle.ql.proofs.widths.print_widths.Lts as lts
-use Rattle.ql.proofs.widths.print_from.Reads as print-from-reads
 
 abbrev Inv-loop : tie.InvT-loop
 Inv-loop request width v₀ v = Unit {0}

@@ -1,12 +1,9 @@
+-- `widths::run` is safe and ends. Assumes nothing.
 use borrow.Author.Needs.{needs}
 use native.Mathlib.Omega.{arith}
 use Prim.Native.Nat.{_-_}
 use Rattle.ql.proofs.widths.run.Statement.{statement}
 use Rattle.ql.proofs.widths.run.Tie as tie
-use Rattle.ql.proofs.widths.run.Reads as reads
-use Rattle.ql.proofs.widths.run.Lts as lts
-use Rattle.ql.proofs.request.take_request.Reads as take-request-reads
-use Rattle.ql.proofs.widths.print_group.Reads as print-group-reads
 
 abbrev Inv-loop : tie.InvT-loop
 Inv-loop given width₀ width = Unit {0}
