@@ -1,6 +1,6 @@
 #!/bin/sh
 # Runs the command ql, and builds it first where that is needed: only a proved program is built, so the first time takes minutes.
-# The exit status is 0 for an answer, also for a refused one, 2 for a command line that ql cannot read, and 1 where it cannot be built.
+# The exit status is 0 for an answer, also for a refused one, 2 for a command line that ql cannot read, and 1 where it cannot be built or run.
 set -u
 here=$(cd "$(dirname "$0")" && pwd)
 program=$here/target/bin/ql
@@ -29,7 +29,10 @@ build() {
 
 # A Rattle program has no exit status of its own: it says what it cannot read on standard error.
 exec 3>&1
-said=$("$program" "$@" 2>&1 >&3)
+said=$("$program" "$@" 2>&1 >&3) || {
+    echo "ql: the program was stopped, with status $?" >&2
+    exit 1
+}
 [ -z "$said" ] && exit 0
 printf '%s\n' "$said" >&2
 exit 2
