@@ -10,7 +10,7 @@ build() {
         echo "ql: 'rt' of the Rattle kit is not on the PATH, and only it can build ql" >&2
         exit 1
     }
-    echo 'ql: proving and building the command; from nothing this takes some five minutes, and a line is printed as each part is proved' >&2
+    echo 'ql: proving and building the command; from nothing this takes some four minutes, and a line is printed as each part is proved' >&2
     status=$(mktemp)
     {
         (cd "$here" && rt check ql) 2>&1
