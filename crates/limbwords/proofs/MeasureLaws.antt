@@ -72,7 +72,7 @@ module _ (z : ℤ) (k : ℕ) (h : bitLength z < 32 * (k + 2)) where
       go false q = omega (arith, ltb-false (bitLength z) (32 * (k + 1)) q)
 
 -- one limb is the least
-pub settled-one : (z : ℤ) → bitLength z < 32 * 1 → limbCount z ≡ 1
+settled-one : (z : ℤ) → bitLength z < 32 * 1 → limbCount z ≡ 1
 unfolding limbCount
 settled-one z h = omega arith
 
@@ -90,10 +90,10 @@ module _ (z : ℤ) (n : ℕ) (p : 1 < n) (h : bitLength z < 32 * n) where
   top-limb : (m : ℕ) → bitsFrom z (32 * (n - 1)) ≡ m → bitsFrom z (32 * (n - 2 + 1)) ≡ m
   top-limb m e = ap (λ (k : ℕ). bitsFrom z (32 * k)) one ∙ e
 
-  pub shorter-by-one : bitsFrom z (32 * (n - 1)) ≡ continued (bitsFrom z (32 * (n - 2))) → bitLength z < 32 * (n - 1)
+  shorter-by-one : bitsFrom z (32 * (n - 1)) ≡ continued (bitsFrom z (32 * (n - 2))) → bitLength z < 32 * (n - 1)
   shorter-by-one e = omega (arith, one, shorter z (n - 2) enough (top-limb _ e))
 
-  pub settled-at : (bitsFrom z (32 * (n - 1)) ≡ continued (bitsFrom z (32 * (n - 2))) → ⊥) → n ≡ limbCount z
+  settled-at : (bitsFrom z (32 * (n - 1)) ≡ continued (bitsFrom z (32 * (n - 2))) → ⊥) → n ≡ limbCount z
   settled-at e = sym (settled z (n - 2) enough (λ q. e (ap (λ (k : ℕ). bitsFrom z (32 * k)) (sym one) ∙ q)) ∙ two)
 
 -- ---- what is so at each turn of measuring: n limbs are enough, and `high` is the last of them

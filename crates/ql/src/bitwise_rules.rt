@@ -4,14 +4,7 @@ use super::explain::is_position;
 use super::explain::outside_field;
 use super::explain::print_argument;
 use super::explain::print_refused;
-use super::names::bitwise_name;
 use output::print;
-
-pub fn print_bitwise_name(index: u64) {
-    let mut name = io::buffer();
-    let n = bitwise_name(index, &mut name);
-    print(&name[..n]);
-}
 
 // How many arguments an operation takes.
 pub fn arity(index: u64) -> usize

@@ -1,5 +1,5 @@
--- The limbs of a natural number, given a sign, and the length of their shortest form, from the top. Assumes nothing.
-use Prim.Native.Nat.{ℕ, zero, suc, _*_, _-_, _^_, _≤_, _<_}
+-- The limbs of a natural number, given a sign. Assumes nothing.
+use Prim.Native.Nat.{ℕ, zero, suc, _*_, _^_, _≤_, _<_}
 use native.Mathlib.Nat.{le-refl, lt-of-le-of-lt}
 use native.Mathlib.Omega.{arith}
 use mathlib.Core.Path.{_≡_, refl, sym, ap, ap₂, subst, _∙_}
@@ -14,27 +14,8 @@ use Rattle.bits.specs.Division.{modℕ}
 use Rattle.bits.specs.Sign.{withSign}
 use Rattle.bits.proofs.LengthLaws.{bitLength-le, mag-lt}
 use Rattle.words.proofs.SignedLaws.{withSign-natAbs, withSign-not}
-use Rattle.limbwords.specs.Value.{value, bitsFrom, limbsOf, limbCount, shortest}
-use Rattle.limbwords.specs.Results.{continued}
+use Rattle.limbwords.specs.Value.{value, limbsOf, limbCount, shortest}
 use Rattle.limbwords.proofs.ValueLaws.{value-length, length-limbsOf, value-limbsOf, limbsOf-value, limbCount-le}
-use Rattle.limbwords.proofs.LimbLaws.{limb-value}
-use Rattle.limbwords.proofs.MeasureLaws.{shorter-by-one, settled-at}
-
--- ---- the top limb of those that are enough, and the limb that would continue the one below it
-
-module _ (xs : List ℕ) (b : (i : ℕ) → getD xs i 0 < 2 ^ 32) (n : ℕ) (h : 1 < n) (k : n ≤ length xs) (e : bitLength (value xs) < 32 * n)
-    {r : ℕ} (f : r ≡ continued (getD xs (n - 2) 0)) where
-  high : getD xs (n - 1) 0 ≡ bitsFrom (value xs) (32 * (n - 1))
-  high = limb-value xs (n - 1) b (omega arith)
-
-  low : r ≡ continued (bitsFrom (value xs) (32 * (n - 2)))
-  low = f ∙ ap continued (limb-value xs (n - 2) b (omega arith))
-
-  pub can-go : getD xs (n - 1) 0 ≡ r → bitLength (value xs) < 32 * (n - 1)
-  can-go q = shorter-by-one (value xs) n h e (sym high ∙ q ∙ low)
-
-  pub stays : (getD xs (n - 1) 0 ≡ r → ⊥) → n ≡ limbCount (value xs)
-  stays q = settled-at (value xs) n h e (λ s. q (high ∙ s ∙ sym low))
 
 -- ---- the sign
 

@@ -9,7 +9,6 @@ ghost use lib.ListN.{length, take, drop};
 ghost use Rattle.bits.specs.Testbit.{isNegative};
 ghost use Rattle.bits.specs.Sign.{withSign};
 ghost use Rattle.limbwords.specs.Value.{value, limbCount, limbsOf, shortest};
-ghost use Rattle.limbwords.specs.Results.{continued};
 ghost use Rattle.text.specs.Numerals.{areDigits, numeral};
 ghost use Rattle.text.specs.Readings.{Holds, limbReading};
 ghost use Rattle.text.specs.Inner.{Lays};
@@ -19,6 +18,8 @@ use super::form::is_integer;
 use super::form::take_apart;
 use super::negate::negate;
 use super::word::sum_digits;
+use limbwords::measure::measure_common;
+use limbwords::result::Logic;
 
 // Up to eight hexadecimal digits as a limb.
 fn digits_limb(digits: &[u8]) -> u32
@@ -60,27 +61,12 @@ fn put_word(n: u64, out: &mut [u32])
     out[2] = 0;
 }
 
-// The limb that continues the top bit of a limb.
-fn continuing(n: u32) -> u32
-    ensures { λ r. ⌜ r ≡ continued n ⌝ }
-{
-    if n < 0x8000_0000 { 0 } else { 0xFFFF_FFFF }
-}
-
-// How many limbs the integer has in its shortest form: a top limb that only continues the one below it can go.
+// How many limbs the integer has in its shortest form: it is measured as x and x.
 fn shortest_length(x: &[u32]) -> usize
     requires { ⌜ 0 < length (now x) ⌝ }
     ensures { λ r. ⌜ r ≡ limbCount (value (now (x .entry))) ⌝ }
 {
-    let mut n = x.len();
-    while 1 < n {
-        let top = x[n - 1];
-        if top != continuing(x[n - 2]) {
-            return n;
-        }
-        n -= 1;
-    }
-    n
+    measure_common(Logic::And, x, x, x.len())
 }
 
 // The limbs of a natural number made those of the number with its sign. Answers the length of its shortest form.

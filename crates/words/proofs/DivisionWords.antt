@@ -7,7 +7,7 @@ use Prim.Native.Nat.{ℕ, zero, suc, _+_, _*_, _-_, _/_, _%_, _^_, _≤_, _<_}
 use native.Mathlib.Nat.{div-add-mod', mod-lt, lt-of-lt-of-le}
 use native.Mathlib.Omega.{arith}
 use lib.Dec.{T, leb, ltb, eqb, leb·zero, ltb→lt, leb→le}
-use lib.IntN.{ℤ, pos, negsuc, negℤ, natAbs, _+ℤ_, _*ℤ_, negℤ-negℤ, negℤ-+ℤ, *ℤ-negsuc, *ℤ-zero}
+use lib.IntN.{ℤ, pos, negsuc, negℤ, natAbs, _+ℤ_, _*ℤ_}
 use lib.Signed.{mag, natAbs-le, leZ, ltZ, _≤ℤ_, _<ℤ_}
 use mir.Syntax.{w64}
 use mir.Val.{SFits}
@@ -17,43 +17,11 @@ use Rattle.bits.specs.Sign.{withSign}
 use Rattle.bits.specs.Division.{div, «mod», div0, mod0}
 use Rattle.bits.proofs.Booleans.{all₂}
 use Rattle.bits.proofs.TestbitLaws.{by-lt}
-use Rattle.bits.proofs.IntegerLaws.{leZ-true, ltZ-true, pos-sub-ge}
+use Rattle.bits.proofs.IntegerLaws.{leZ-true, ltZ-true}
 use Rattle.bits.proofs.DivisionLaws.{div-mod-unique, div0-mod0-unique}
+use Rattle.words.proofs.SignedLaws.{withSign-natAbs, withSign-add, withSign-sub, negℤ-*ℤ-r, withSign-mul}
 use Rattle.words.specs.declared.division.Quotient.{Quotient}
 use Rattle.words.specs.Division.{Allowed, Divided}
-
--- ---- products and sums of integers with signs
-
-sign-natAbs : (x : ℤ) → withSign (isNegative x) (natAbs x) ≡ x
-unfolding withSign isNegative
-sign-natAbs (pos n) = refl
-sign-natAbs (negsuc n) = refl
-
-negℤ-*ℤ-pos : (m n : ℕ) → negℤ (pos m) *ℤ pos n ≡ negℤ (pos (m * n))
-negℤ-*ℤ-pos zero n = let e : 0 * n ≡ 0 = omega arith in ap pos e ∙ sym (ap (λ (k : ℕ). negℤ (pos k)) e)
-negℤ-*ℤ-pos (suc m) n = refl
-
-*ℤ-negℤ-pos : (k : ℤ) (n : ℕ) → k *ℤ negℤ (pos n) ≡ negℤ (k *ℤ pos n)
-*ℤ-negℤ-pos k zero = *ℤ-zero k ∙ sym (ap negℤ (*ℤ-zero k))
-*ℤ-negℤ-pos k (suc n) = *ℤ-negsuc k n
-
-sign-mul : (s t : Bool) (m n : ℕ) → withSign s m *ℤ withSign t n ≡ withSign (xor s t) (m * n)
-unfolding withSign xor
-sign-mul false false m n = refl
-sign-mul true false m n = negℤ-*ℤ-pos m n
-sign-mul false true m n = *ℤ-negℤ-pos (pos m) n
-sign-mul true true m n = *ℤ-negℤ-pos (negℤ (pos m)) n ∙ ap negℤ (negℤ-*ℤ-pos m n) ∙ negℤ-negℤ (pos (m * n))
-
-sign-add : (s : Bool) (m n : ℕ) → withSign s m +ℤ withSign s n ≡ withSign s (m + n)
-unfolding withSign
-sign-add false m n = refl
-sign-add true m n = sym (negℤ-+ℤ (pos m) (pos n))
-
-sign-sub : (s : Bool) (m n : ℕ) → n ≤ m → withSign s m +ℤ withSign (not s) n ≡ withSign s (m - n)
-unfolding withSign
-sign-sub false m n h = pos-sub-ge m n h
-sign-sub true m n h =
-    ap (λ (k : ℤ). negℤ (pos m) +ℤ k) (sym (negℤ-negℤ (pos n))) ∙ sym (negℤ-+ℤ (pos m) (negℤ (pos n))) ∙ ap negℤ (pos-sub-ge m n h)
 
 -- ---- the quotient and the remainder, rounded down or up in absolute value
 
@@ -65,10 +33,10 @@ remainder up negative r b = cond up (withSign (not negative) (b - r)) (withSign 
 
 -- of n by b, with a sign
 parts : (up s : Bool) (n b : ℕ) → 0 < b → withSign s (cond up (n / b + 1) (n / b) * b) +ℤ remainder up s (n % b) b ≡ withSign s n
-parts false s n b h = sign-add s (n / b * b) (n % b) ∙ ap (withSign s) (div-add-mod' n b)
+parts false s n b h = sym (withSign-add s (n / b * b) (n % b)) ∙ ap (withSign s) (div-add-mod' n b)
 parts true s n b h =
     let e : (n / b + 1) * b - (b - n % b) ≡ n = omega (arith, div-add-mod' n b, mod-lt n h) in
-    sign-sub s ((n / b + 1) * b) (b - n % b) (omega arith) ∙ ap (withSign s) e
+    sym (withSign-sub s ((n / b + 1) * b) (b - n % b) (omega arith)) ∙ ap (withSign s) e
 
 xor-twice : (s t : Bool) → xor (xor s t) t ≡ s
 unfolding xor
@@ -79,11 +47,11 @@ division-equation : (up : Bool) (x y : ℤ) → 0 < natAbs y
     → (quotient up x y *ℤ y) +ℤ remainder up (isNegative x) (natAbs x % natAbs y) (natAbs y) ≡ x
 division-equation up x y h =
     ap (λ (k : ℤ). k +ℤ remainder up s (n % b) b)
-    (ap (λ (k : ℤ). quotient up x y *ℤ k) (sym (sign-natAbs y))
-    ∙ sign-mul (xor s t) t q b
+    (ap (λ (k : ℤ). quotient up x y *ℤ k) (sym (withSign-natAbs y))
+    ∙ sym (withSign-mul (xor s t) t q b)
     ∙ ap (λ (c : Bool). withSign c (q * b)) (xor-twice s t))
     ∙ parts up s n b h
-    ∙ sign-natAbs x
+    ∙ withSign-natAbs x
   where
     s : Bool
     s = isNegative x
@@ -144,7 +112,7 @@ allowed-above b m h = (leZ-true (low b), ltZ-true (lt-ltb (2 * m) b h))
 allowed-below : (b m : ℕ) → 0 < b → 2 * m ≤ b → Allowed true b (withSign true m)
 unfolding Allowed withSign
 allowed-below b m p h =
-    subst (λ (k : ℤ). (negℤ (pos b) ≤ℤ k) × (k <ℤ pos b)) (sym (*ℤ-negℤ-pos (pos 2) m)) (leZ-true (low b (2 * m) h), ltZ-true (high (2 * m)))
+    subst (λ (k : ℤ). (negℤ (pos b) ≤ℤ k) × (k <ℤ pos b)) (sym (negℤ-*ℤ-r (pos 2) (pos m))) (leZ-true (low b (2 * m) h), ltZ-true (high (2 * m)))
   where
     low : (b k : ℕ) → k ≤ b → leZ (negℤ (pos b)) (negℤ (pos k)) ≡ true
     low zero zero h = refl

@@ -50,7 +50,7 @@ negℤ-*ℤ-l (pos (suc m)) (negsuc n) = sym (negℤ-negℤ (pos (suc m * suc n)
 negℤ-*ℤ-l (negsuc m) (pos n) = sym (negℤ-negℤ (pos (suc m * n)))
 negℤ-*ℤ-l (negsuc m) (negsuc n) = refl
 
-negℤ-*ℤ-r : (x y : ℤ) → x *ℤ negℤ y ≡ negℤ (x *ℤ y)
+pub negℤ-*ℤ-r : (x y : ℤ) → x *ℤ negℤ y ≡ negℤ (x *ℤ y)
 negℤ-*ℤ-r x y = *ℤ-comm x (negℤ y) ∙ negℤ-*ℤ-l y x ∙ ap negℤ (*ℤ-comm y x)
 
 pub withSign-mul : (b c : Bool) (m n : ℕ) → withSign (xor b c) (m * n) ≡ withSign b m *ℤ withSign c n

@@ -2,13 +2,14 @@
 use borrow.Author.Needs.{needs}
 use native.Mathlib.Omega.{arith}
 use native.Mathlib.Nat.{mod-lt}
+use mathlib.Core.Path.{refl}
 use Prim.Native.Nat.{_<_, _%_}
 use Rattle.net.proofs.NetLaws.{rotate-below, rotate-above}
 use Rattle.net.proofs.after_rotate.Statement.{statement}
 use Rattle.net.proofs.after_rotate.Tie as tie
 
 returns : tie.Need-returns
-returns c = λ h. absurd (omega (arith, h))
+returns c = (λ h. absurd (omega (arith, h)), λ _. refl)
 
 rem-n : tie.Need-rem-n
 rem-n c = search needs
@@ -33,10 +34,10 @@ sub-result-2 : tie.Need-sub-result-2
 sub-result-2 c = search needs
 
 returns-2 : tie.Need-returns-2
-returns-2 c = λ h. rotate-below (c .before .before .args .size) (c .before .before .args .net) (c .before .before .args .count) (omega arith)
+returns-2 c = (λ h. rotate-below (c .before .before .args .size) (c .before .before .args .net) (c .before .before .args .count) (omega arith), λ h. absurd (omega (arith, h)))
 
 returns-3 : tie.Need-returns-3
-returns-3 c = λ h. rotate-above (c .before .before .args .size) (c .before .before .args .net) (c .before .before .args .count) h (omega arith)
+returns-3 c = (λ h. rotate-above (c .before .before .args .size) (c .before .before .args .net) (c .before .before .args .count) h (omega arith), λ h. absurd (omega (arith, h)))
 
 pub after-rotate-spec : {M : Type 1} → statement M
 after-rotate-spec =
