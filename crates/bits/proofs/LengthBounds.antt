@@ -1,20 +1,21 @@
 -- How long the result of a shift or of a field operation can be. Assumes nothing.
-use Prim.Native.Nat.{ℕ, zero, suc, _+_, _-_, _≤_, _<_}
+use Prim.Native.Nat.{ℕ, zero, suc, _+_, _-_, _≤_, _<_, _^_}
+use native.Mathlib.Nat.{lt-of-lt-of-le}
 use native.Mathlib.Omega.{arith}
 use mathlib.Core.Path.{_≡_, refl, sym, ap, _∙_, subst}
 use mathlib.Core.Bool.{Bool, not, _&&_, false≢true}
 use lib.Dec.{lit<}
+use lib.Pow.{pow-mono}
 use lib.IntN.{ℤ, pos, negsuc}
 use lib.Signed.{mag}
 use borrow.Author.Tests.{le-ltb, lt-ltb}
 use Rattle.bits.specs.Testbit.{isNegative, testbit, bitLength}
 use Rattle.bits.specs.Shift.{shiftLeft, shiftRight}
 use Rattle.bits.specs.Field.{bitField, setField, copyBitField, permuteField, rotateIndex, rotateBitField, reverseIndex, reverseBitField}
-use Rattle.bits.proofs.TestbitLaws.{testbit-above, testbit-shiftRight, isNegative-shiftRight, isNegative-ofBits}
+use Rattle.bits.proofs.TestbitLaws.{testbit-above, testbit-mag-lt, testbit-shiftRight, isNegative-shiftRight, isNegative-ofBits}
 use Rattle.bits.proofs.ShiftLaws.{testbit-shiftLeft-ge, testbit-shiftLeft-ones, isNegative-shiftLeft, shiftRight-shiftLeft, shiftRight-above}
 use Rattle.bits.proofs.LengthLaws.{bitLength-le, mag-lt, bitLength-least-bits}
-use Rattle.bits.proofs.FieldLaws.{testbit-bitField}
-use Rattle.bits.proofs.FieldWords.{setField-lt}
+use Rattle.bits.proofs.FieldLaws.{inField-ge, testbit-bitField, testbit-setField-out, isNegative-setField}
 
 -- ---- right shifts
 
@@ -70,6 +71,15 @@ bitField-length x start end =
     testbit-bitField x start end i
     ∙ ap (λ (b : Bool). b && testbit x (start + i)) (le-ltb i (end - start) l)
     ∙ sym (isNegative-ofBits (end - start) (λ j. testbit x (start + j)) (pos 0)))
+
+-- a magnitude below a power of two stays below it, where the field is
+pub setField-lt : (x : ℤ) (start end : ℕ) (g : ℕ → Bool) (k : ℕ) → end ≤ k → mag x < 2 ^ k → mag (setField x start end g) < 2 ^ k
+setField-lt x start end g k h l =
+    mag-lt (setField x start end g) k
+    (bitLength-least-bits (setField x start end g) k
+    (λ i u. testbit-setField-out x start end g i (inField-ge start end i (omega arith))
+    ∙ testbit-mag-lt x i (lt-of-lt-of-le l (pow-mono u))
+    ∙ sym (isNegative-setField x start end g)))
 
 -- k bits are enough where they are enough for x and the field lies in them
 pub setField-length : (x : ℤ) (start end : ℕ) (g : ℕ → Bool) (k : ℕ) → bitLength x ≤ k → end ≤ k → bitLength (setField x start end g) ≤ k

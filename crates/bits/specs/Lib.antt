@@ -1,5 +1,4 @@
 pub mod Testbit
-pub mod Sign
 pub mod Range
 pub mod Logical
 pub mod Shift

@@ -10,7 +10,7 @@ use mir.Syntax.{w64}
 use mir.Val.{toZ, ofZ}
 use borrow.Author.Tests.{lt-ltb, not-true, not-false}
 use Rattle.bits.specs.Testbit.{fits}
-use Rattle.bits.proofs.WordLaws.{back-word, fits-mag}
+use Rattle.words.proofs.WordLaws.{back-word, fits-mag}
 use Rattle.fixnum.specs.Domains.{isWidth}
 use Rattle.fixnum.proofs.CallLaws.{fits-word}
 use Rattle.limbwords.specs.Value.{value}

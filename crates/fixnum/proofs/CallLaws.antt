@@ -16,7 +16,7 @@ use mir.Val.{SFits, toZ, ofZ}
 use borrow.Author.Tests.{leb-true, lt-ltb, ne-eqb}
 use Rattle.bits.proofs.Booleans.{both-left, both-right}
 use Rattle.bits.specs.Testbit.{fits}
-use Rattle.bits.proofs.WordLaws.{back-word, fits-mag}
+use Rattle.words.proofs.WordLaws.{back-word, fits-mag}
 use Rattle.fixnum.specs.declared.Answer.{Answer}
 use Rattle.fixnum.specs.Answers.{done, refuse, unless}
 use Rattle.fixnum.specs.Domains.{leastWidth, largestWidth, isWidth, arg}

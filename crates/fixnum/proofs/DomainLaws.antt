@@ -13,7 +13,7 @@ use mir.Val.{SFits, toZ, ofZ}
 use borrow.Author.Tests.{leb-true}
 use Rattle.bits.proofs.Booleans.{and-true}
 use Rattle.bits.proofs.IntegerLaws.{pos-sub-ge}
-use Rattle.bits.proofs.WordLaws.{back}
+use Rattle.words.proofs.WordLaws.{back}
 use Rattle.fixnum.specs.declared.checks.Shape.the-variants.{Division, Bit, NewBit, Field, SignedShift, Shift, Rotation}
 use Rattle.bits.specs.Range.{within}
 use Rattle.fixnum.specs.Domains.{arg, isWidth, accepts, inDomainsFrom, inDomains}

@@ -14,8 +14,8 @@ use Rattle.bits.specs.Shift.{shiftRight}
 use Rattle.bits.specs.Division.{modℕ, mod0}
 use Rattle.bits.specs.Field.{copyBitField, copyBit}
 use Rattle.bits.proofs.ModLaws.{modℕ-lt}
-use Rattle.bits.proofs.FieldWords.{extend-copyBit, mod0-copyBit}
-use Rattle.bits.proofs.WordLaws.{fits-mag}
+use Rattle.words.proofs.FieldWords.{extend-copyBit, mod0-copyBit}
+use Rattle.words.proofs.WordLaws.{fits-mag}
 
 -- a field as a number
 pub field-lt : (x : ℤ) (start end : ℕ) {v : ℕ} → v ≡ modℕ (shiftRight x start) (2 ^ (end - start)) → v < 2 ^ (end - start)

@@ -19,7 +19,7 @@ use Rattle.bits.specs.Shift.{shiftRight}
 use Rattle.bits.specs.Field.{bitField, setField, copyBitField, permuteField, rotateBitField, reverseBitField}
 use Rattle.bits.proofs.LengthLaws.{fits-not}
 use Rattle.bits.proofs.FitsLaws.{zero-fits, small-fits, bitLength-fits, bitCount-fits, firstBitSet-fits, mod-fits, mod0-fits, low-fits, high-fits, if-fits, setField-fits, bitField-fits}
-use Rattle.bits.proofs.WordLaws.{fits-mag}
+use Rattle.words.proofs.WordLaws.{fits-mag}
 use Rattle.words.proofs.SignedLaws.{natAbs-add, natAbs-sub, natAbs-mul}
 use Rattle.bits.specs.Range.{within}
 use Rattle.fixnum.specs.Domains.{isWidth, arg, Domain, fixnum, divisor, position, fieldEnd, accepts, inDomainsFrom, inDomains}

@@ -9,9 +9,9 @@ use lib.Pow.{shr-le}
 use lib.Signed.{mag}
 use borrow.Author.Tests.{lt-ltb}
 use Rattle.bits.specs.Testbit.{isNegative, fits}
-use Rattle.bits.specs.Sign.{withSign, ofMagnitude}
+use Rattle.words.specs.Sign.{withSign, ofMagnitude}
 use Rattle.bits.specs.Shift.{floorDiv, shiftLeft, shiftRight, arithmeticShift}
-use Rattle.bits.proofs.WordLaws.{fits-mag}
+use Rattle.words.proofs.WordLaws.{fits-mag}
 use Rattle.words.proofs.SignedLaws.{withSign-times}
 
 -- ---- by sign and absolute value, and by sign and magnitude

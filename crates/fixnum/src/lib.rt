@@ -3,7 +3,7 @@ ghost use mathlib.Core.Path.{_≡_};
 ghost use mathlib.Core.Bool.{true};
 ghost use Prim.Native.Nat.{_<_};
 ghost use lib.IntN.{pos};
-ghost use Rattle.bits.specs.Sign.{withSign};
+ghost use Rattle.words.specs.Sign.{withSign};
 ghost use Rattle.fixnum.specs.Answers as answers;
 ghost use Rattle.fixnum.specs.Domains.{isWidth};
 ghost use Rattle.fixnum.specs.Operations.{truth};

@@ -13,7 +13,7 @@ use Rattle.bits.specs.Testbit.{testbit, bitLength, fits}
 use Rattle.bits.proofs.Booleans.{both-right}
 use Rattle.bits.proofs.LengthLaws.{fits-length}
 use Rattle.bits.proofs.FitsLaws.{is-true}
-use Rattle.bits.proofs.Digitwise.{digit-testbit}
+use Rattle.words.proofs.Digitwise.{digit-testbit}
 use Rattle.limbs.specs.declared.Number.{Number}
 use Rattle.limbwords.specs.Value.{bitsFrom}
 use Rattle.limbs.specs.Buffer.{Outcome, refused, integer, number}

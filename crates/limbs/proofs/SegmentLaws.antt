@@ -10,7 +10,7 @@ use Rattle.bits.specs.Shift.{shiftLeft}
 use Rattle.bits.specs.Field.{bitField, setField, copyBitField, permuteField, rotateIndex, rotateBitField}
 use Rattle.bits.proofs.ShiftLaws.{testbit-shiftLeft-ge}
 use Rattle.bits.proofs.FieldLaws.{inField-lt, inField-ge, testbit-bitField, testbit-setField-in, testbit-setField-out}
-use Rattle.bits.proofs.RotateWords.{rotate-low, rotate-high}
+use Rattle.words.proofs.RotateWords.{rotate-low, rotate-high}
 use Rattle.limbwords.specs.Value.{bitsFrom, limbAt}
 use Rattle.limbs.specs.Inner.{Moved, Past}
 use Rattle.limbwords.proofs.LimbLaws.{bitsFrom-lt, testbit-bitsFrom, word-ext}

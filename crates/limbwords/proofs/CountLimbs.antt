@@ -13,16 +13,16 @@ use lib.ListN.{length, getD}
 use lib.Signed.{mag}
 use borrow.Author.Tests.{eqb-true, eqb-false, eq-eqb, ne-eqb}
 use Rattle.bits.specs.Testbit.{odd, isNegative, testbit, bitLength}
-use Rattle.bits.specs.Sign.{ofMagnitude}
+use Rattle.words.specs.Sign.{ofMagnitude}
 use Rattle.bits.specs.Logical.{bitwiseNot}
 use Rattle.bits.specs.Shift.{floorDiv, shiftRight}
 use Rattle.bits.specs.Division.{modℕ}
 use Rattle.bits.specs.Count.{onesBelow, ones, bitCount, firstBitSet}
 use Rattle.bits.proofs.TestbitLaws.{by-lt, testbit-ext, testbit-zero, testbit-above}
-use Rattle.bits.proofs.MagnitudeLaws.{bitLength-mag, testbit-mag}
+use Rattle.words.proofs.MagnitudeLaws.{bitLength-mag, testbit-mag}
 use Rattle.bits.proofs.LengthLaws.{bitLength-le, mag-lt, bitLength-least-bits, testbit-top}
 use Rattle.bits.proofs.CountLaws.{onesBelow-ext, onesBelow-le, onesBelow-split, ones-onesBelow, firstBitSet-unique, firstBitSet-none}
-use Rattle.bits.proofs.Digitwise.{testbit-digitwise, xor-digitwise}
+use Rattle.words.proofs.Digitwise.{testbit-digitwise, xor-digitwise}
 use Rattle.limbwords.specs.Value.{value, bitsFrom}
 use Rattle.limbwords.proofs.ValueLaws.{small-bits, testbit-value, value-length}
 use Rattle.limbwords.proofs.LimbLaws.{bitsFrom-lt, testbit-bitsFrom, word-ext, limb-value, bitsFrom-above}

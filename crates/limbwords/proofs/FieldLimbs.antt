@@ -12,7 +12,7 @@ use Rattle.bits.specs.Field.{inField, bitField, setField, copyBitField, permute
 use Rattle.bits.proofs.TestbitLaws.{by-lt, testbit-zero}
 use Rattle.bits.proofs.ShiftLaws.{testbit-shiftLeft-ge}
 use Rattle.bits.proofs.FieldLaws.{inField-true, inField-lt, inField-ge, by-field, testbit-setField, testbit-bitField}
-use Rattle.bits.proofs.RotateWords.{rotate-low, rotate-high}
+use Rattle.words.proofs.RotateWords.{rotate-low, rotate-high}
 use Rattle.limbwords.specs.Value.{bitsFrom, limbAt}
 use Rattle.limbwords.proofs.LimbLaws.{testbit-bitsFrom, word-ext}
 

@@ -16,7 +16,7 @@ use Rattle.bits.specs.Division.{modℕ}
 use Rattle.bits.proofs.TestbitLaws.{testbit-ext, testbit-shiftRight}
 use Rattle.bits.proofs.ShiftLaws.{shiftRight-above}
 use Rattle.bits.proofs.ModLaws.{modℕ-lt}
-use Rattle.bits.proofs.FieldWords.{testbit-modℕ-lt, testbit-mod-lt, testbit-div, testbit-digits}
+use Rattle.words.proofs.FieldWords.{testbit-modℕ-lt, testbit-mod-lt, testbit-div, testbit-digits}
 use Rattle.limbwords.specs.Value.{value, bitsFrom}
 use Rattle.limbwords.proofs.ValueLaws.{pos-injective, testbit-value, testbit-value-sign, small-bits}
 

@@ -16,7 +16,7 @@ use Rattle.bits.specs.Division.{modℕ}
 use Rattle.bits.proofs.ModLaws.{modℕ-not, modℕ-small}
 use Rattle.bits.proofs.ShiftLaws.{shiftRight-zero, shiftRight-not}
 use Rattle.bits.proofs.LogicalLaws.{testbit-not, testbit-bitwise}
-use Rattle.bits.proofs.Digitwise.{testbit-digitwise, and-digitwise, ior-digitwise}
+use Rattle.words.proofs.Digitwise.{testbit-digitwise, and-digitwise, ior-digitwise}
 use Rattle.limbwords.specs.Value.{value, bitsFrom, limbAt}
 use Rattle.limbwords.proofs.LimbLaws.{bitsFrom-lt, testbit-bitsFrom, word-ext, limb-value}
 

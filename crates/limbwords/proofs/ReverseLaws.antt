@@ -4,7 +4,7 @@ use mathlib.Core.Path.{_≡_, refl}
 use mathlib.Core.Bool.{xor}
 use lib.IntN.{pos}
 use Rattle.bits.specs.Testbit.{odd, testbit}
-use Rattle.bits.proofs.SwapLaws.{below, swapped, source, paired, fair, unmoved, swap-moves, moves-reverse}
+use Rattle.words.proofs.SwapLaws.{below, swapped, source, paired, fair, unmoved, swap-moves, moves-reverse}
 
 -- they reverse the 32 bits
 pub testbit-reversed : (w : ℕ) {a b c d r : ℕ} → a ≡ swapped 32 w 1 0x55555555 → b ≡ swapped 32 a 2 0x33333333 → c ≡ swapped 32 b 4 0x0F0F0F0F

@@ -10,7 +10,7 @@ use lib.Pow.{pow-pos, shr-lt}
 use borrow.Author.Tests.{lt-ltb, le-ltb}
 use Rattle.bits.specs.Testbit.{testbit}
 use Rattle.bits.proofs.TestbitLaws.{by-lt}
-use Rattle.bits.proofs.FieldWords.{testbit-mod-lt, testbit-div-ge, testbit-digits, digits-lt-pow}
+use Rattle.words.proofs.FieldWords.{testbit-mod-lt, testbit-div-ge, testbit-digits, digits-lt-pow}
 
 -- it is a word again
 pub splice-lt : (low high k : ℕ) → k ≤ 32 → high < 2 ^ 32 → high / 2 ^ k * 2 ^ k + low % 2 ^ k < 2 ^ 32

@@ -19,7 +19,7 @@ use Rattle.bits.proofs.LengthLaws.{bitLength-least-bits}
 use Rattle.bits.proofs.ShiftLaws.{shiftRight-above}
 use Rattle.bits.proofs.ModLaws.{modℕ-small}
 use Rattle.bits.proofs.ValueLaws.{testbit-modℕ-pow, ofBits-modℕ}
-use Rattle.bits.proofs.FieldWords.{testbit-modℕ-lt}
+use Rattle.words.proofs.FieldWords.{testbit-modℕ-lt}
 use Rattle.limbwords.specs.Value.{onTop, value, limbsOf, limbCount, shortest}
 
 -- ---- one limb below an integer

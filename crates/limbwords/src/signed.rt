@@ -6,7 +6,7 @@ ghost use lib.IntN.{pos, negsuc, natAbs};
 ghost use lib.Signed.{leZ};
 ghost use lib.ListN.{length};
 ghost use Rattle.bits.specs.Testbit.{bitLength};
-ghost use Rattle.bits.specs.Sign.{ofMagnitude};
+ghost use Rattle.words.specs.Sign.{ofMagnitude};
 ghost use Rattle.limbwords.specs.Value.{value, bitsFrom};
 use super::limb::limb;
 use super::limb::padding;

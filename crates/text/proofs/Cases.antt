@@ -3,7 +3,7 @@ use mathlib.Core.Path.{_≡_, refl}
 use mathlib.Core.List.{[], _∷_}
 use lib.IntN.{pos, negsuc}
 use Rattle.bits.specs.Testbit.{halvings, bitLength, isNegative, fits}
-use Rattle.bits.specs.Sign.{withSign}
+use Rattle.words.specs.Sign.{withSign}
 use Rattle.limbwords.specs.Value.{limbCount}
 use Rattle.text.specs.declared.Reading.{Reading}
 use Rattle.text.specs.declared.LimbReading.{LimbReading}

@@ -9,7 +9,7 @@ use lib.IntN.{ℤ, pos, natAbs}
 use lib.ListN.{length, take, drop}
 use lib.Seq.{take-at, take-append-le}
 use Rattle.bits.specs.Testbit.{isNegative, bitLength}
-use Rattle.bits.specs.Sign.{withSign}
+use Rattle.words.specs.Sign.{withSign}
 use Rattle.bits.proofs.LengthLaws.{bitLength-le}
 use Rattle.limbwords.specs.Value.{value, limbsOf, limbCount, shortest}
 use Rattle.limbwords.proofs.ValueLaws.{length-limbsOf, value-limbsOf}

@@ -8,8 +8,8 @@ use lib.Dec.{ltb}
 use lib.IntN.{ℤ}
 use borrow.Author.Tests.{lt-ltb, le-ltb, ltb-true, ltb-false, lt-leb}
 use Rattle.bits.specs.Testbit.{fits}
-use Rattle.bits.specs.Sign.{withSign}
-use Rattle.bits.proofs.WordLaws.{fits-negative, fits-nonnegative}
+use Rattle.words.specs.Sign.{withSign}
+use Rattle.words.proofs.WordLaws.{fits-negative, fits-nonnegative}
 use Rattle.text.specs.declared.Reading.{Reading}
 use Rattle.text.specs.declared.Natural.{Natural}
 use Rattle.text.specs.Numerals.{isInteger, integer}

@@ -11,7 +11,7 @@ use lib.Signed.{mag}
 use Rattle.bits.specs.Testbit.{isNegative, bitLength}
 use Rattle.bits.specs.Shift.{shiftRight}
 use Rattle.bits.specs.Division.{modℕ}
-use Rattle.bits.specs.Sign.{withSign}
+use Rattle.words.specs.Sign.{withSign}
 use Rattle.bits.proofs.LengthLaws.{bitLength-le, mag-lt}
 use Rattle.words.proofs.SignedLaws.{withSign-natAbs, withSign-not}
 use Rattle.limbwords.specs.Value.{value, limbsOf, limbCount, shortest}

@@ -9,7 +9,7 @@ use lib.ListN.{length, take, drop, length-drop, List·getD-eq-default}
 use borrow.Author.Tests.{lt-ltb, le-ltb, ltb-true, ltb-false, eqb-true}
 use borrow.Rule.Slice.PartAt.{part-to-end}
 use Rattle.text.specs.declared.form.Parts.{Parts}
-use Rattle.bits.specs.Sign.{withSign}
+use Rattle.words.specs.Sign.{withSign}
 use Rattle.bits.proofs.Booleans.{both-right, and-second}
 use Rattle.text.specs.Numerals.{byteAt, isMinus, afterSign, isPrefix, isHex, base, digitsFrom, isInteger, integer, areDigits, numeral}
 use Rattle.text.specs.Readings.{parts}

@@ -13,7 +13,7 @@ use lib.Seq.{drop-cons}
 use Rattle.bits.specs.Testbit.{isNegative}
 use Rattle.bits.specs.Shift.{floorDiv, shiftRight}
 use Rattle.bits.specs.Division.{modℕ}
-use Rattle.bits.specs.Sign.{withSign}
+use Rattle.words.specs.Sign.{withSign}
 use Rattle.bits.proofs.LengthLaws.{mag-lt}
 use Rattle.words.proofs.SignedLaws.{withSign-not}
 use Rattle.limbwords.specs.Value.{value, limbsOf}

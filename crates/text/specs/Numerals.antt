@@ -20,7 +20,7 @@ use lib.Dec.{eqb, leb, ltb}
 use lib.IntN.{ℤ, pos, natAbs}
 use lib.ListN.{length, getD, drop}
 use Rattle.bits.specs.Testbit.{isNegative, bitLength}
-use Rattle.bits.specs.Sign.{withSign}
+use Rattle.words.specs.Sign.{withSign}
 
 unfoldable pub between : ℕ → ℕ → ℕ → Bool
 between low high c = leb low c && leb c high

@@ -7,7 +7,7 @@ ghost use lib.Dec.{leb, ltb};
 ghost use lib.IntN.{pos, natAbs};
 ghost use lib.ListN.{length, take, drop};
 ghost use Rattle.bits.specs.Testbit.{isNegative};
-ghost use Rattle.bits.specs.Sign.{withSign};
+ghost use Rattle.words.specs.Sign.{withSign};
 ghost use Rattle.limbwords.specs.Value.{value, limbCount, limbsOf, shortest};
 ghost use Rattle.text.specs.Numerals.{areDigits, numeral};
 ghost use Rattle.text.specs.Readings.{Holds, limbReading};

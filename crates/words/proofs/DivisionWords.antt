@@ -13,7 +13,7 @@ use mir.Syntax.{w64}
 use mir.Val.{SFits}
 use borrow.Author.Tests.{lt-ltb, le-leb, leb-true, leb-false, eqb-true, eqb-false}
 use Rattle.bits.specs.Testbit.{isNegative, fits}
-use Rattle.bits.specs.Sign.{withSign}
+use Rattle.words.specs.Sign.{withSign}
 use Rattle.bits.specs.Division.{div, «mod», div0, mod0}
 use Rattle.bits.proofs.Booleans.{all₂}
 use Rattle.bits.proofs.TestbitLaws.{by-lt}

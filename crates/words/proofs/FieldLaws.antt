@@ -11,13 +11,14 @@ use lib.Signed.{mag}
 use mir.Syntax.{w64}
 use mir.Val.{SFits, toZ, ofZ}
 use Rattle.bits.specs.Testbit.{odd, isNegative, testbit}
-use Rattle.bits.specs.Sign.{ofMagnitude}
+use Rattle.words.specs.Sign.{ofMagnitude}
 use Rattle.bits.specs.Shift.{floorDiv, shiftRight}
 use Rattle.bits.specs.Division.{modℕ}
 use Rattle.bits.specs.Field.{copyBitField}
-use Rattle.bits.proofs.MagnitudeLaws.{ofMagnitude-mag}
-use Rattle.bits.proofs.FieldWords.{copyBitField-magnitude, setField-lt}
-use Rattle.bits.proofs.WordLaws.{back, mag-ofMagnitude}
+use Rattle.words.proofs.MagnitudeLaws.{ofMagnitude-mag}
+use Rattle.words.proofs.FieldWords.{copyBitField-magnitude}
+use Rattle.bits.proofs.LengthBounds.{setField-lt}
+use Rattle.words.proofs.WordLaws.{back, mag-ofMagnitude}
 
 -- ---- sign and magnitude
 

@@ -1,3 +1,10 @@
+pub mod WordLaws
+pub mod MagnitudeLaws
+pub mod Digitwise
+pub mod FieldWords
+pub mod RotateWords
+pub mod SwapLaws
+pub mod CountWords
 pub mod LogicalWords
 pub mod DivisionWords
 pub mod FieldLaws

@@ -17,7 +17,7 @@ use Rattle.bits.specs.Division.{modℕ}
 use Rattle.bits.proofs.TestbitLaws.{by-lt, testbit-ext, testbit-mag-lt}
 use Rattle.bits.proofs.LogicalLaws.{testbit-bitwise}
 use Rattle.bits.proofs.ValueLaws.{testbit-modℕ-pow}
-use Rattle.bits.proofs.Digitwise.{Digitwise, testbit-digitwise, and-digitwise, ior-digitwise, xor-digitwise}
+use Rattle.words.proofs.Digitwise.{Digitwise, testbit-digitwise, and-digitwise, ior-digitwise, xor-digitwise}
 
 -- ---- the bits of a word
 

@@ -13,13 +13,13 @@ use lib.Signed.{mag, leZ, _≤ℤ_, _<ℤ_, leZ-yes, ltZ-yes}
 use borrow.Author.Tests.{leb-false, ltb-false, lt-ltb, le-leb}
 use mir.Val.{boolByte}
 use Rattle.bits.specs.Testbit.{fits}
-use Rattle.bits.specs.Sign.{withSign}
+use Rattle.words.specs.Sign.{withSign}
 use Rattle.bits.specs.Division.{div0, mod0}
 use Rattle.bits.proofs.DivisionLaws.{div0-mod0-unique}
 use Rattle.words.specs.declared.wide.Wide.{Wide}
 use Rattle.words.specs.Wide.{wideValue}
 use Rattle.bits.proofs.FitsLaws.{double}
-use Rattle.bits.proofs.WordLaws.{fits-mag, fits-negative, fits-nonnegative}
+use Rattle.words.proofs.WordLaws.{fits-mag, fits-negative, fits-nonnegative}
 use Rattle.words.proofs.WideLaws.{wide-absolute, wide-sign}
 use Rattle.words.proofs.SignedLaws.{withSign-add, withSign-sub, withSign-times}
 

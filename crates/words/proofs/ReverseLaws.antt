@@ -7,9 +7,9 @@ use lib.IntN.{pos}
 use lib.Pow.{shr-lt}
 use Rattle.bits.specs.Testbit.{odd, testbit}
 use Rattle.bits.specs.Field.{reverseBitField}
-use Rattle.bits.proofs.FieldWords.{testbit-div}
-use Rattle.bits.proofs.RotateWords.{reverse-bits}
-use Rattle.bits.proofs.SwapLaws.{below, swapped, source, paired, fair, unmoved, swap-moves, moves-reverse}
+use Rattle.words.proofs.FieldWords.{testbit-div}
+use Rattle.words.proofs.RotateWords.{reverse-bits}
+use Rattle.words.proofs.SwapLaws.{below, swapped, source, paired, fair, unmoved, swap-moves, moves-reverse}
 
 -- ---- six swaps
 

@@ -9,9 +9,9 @@ use lib.IntN.{ℤ, pos, negsuc, negℤ, natAbs, subℕ, negℤ-negℤ, negℤ-+�
 use mir.Syntax.{w64}
 use mir.Val.{SFits, toZ, ofZ}
 use Rattle.bits.specs.Testbit.{isNegative}
-use Rattle.bits.specs.Sign.{withSign}
+use Rattle.words.specs.Sign.{withSign}
 use Rattle.bits.proofs.IntegerLaws.{pos-sub-ge}
-use Rattle.bits.proofs.WordLaws.{back}
+use Rattle.words.proofs.WordLaws.{back}
 
 -- an integer has a sign and an absolute value
 pub withSign-natAbs : (x : ℤ) → withSign (isNegative x) (natAbs x) ≡ x

@@ -13,7 +13,7 @@ use mir.Syntax.{w64}
 use mir.Val.{SFits}
 use borrow.Author.Tests.{le-ltb}
 use Rattle.bits.specs.Testbit.{fits}
-use Rattle.bits.specs.Sign.{withSign}
+use Rattle.words.specs.Sign.{withSign}
 use Rattle.bits.proofs.Booleans.{not-not}
 use Rattle.words.specs.declared.wide.Wide.{Wide}
 use Rattle.words.specs.Wide.{wideValue}

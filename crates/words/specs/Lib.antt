@@ -1,2 +1,3 @@
-pub mod Division
+pub mod Sign
 pub mod Wide
+pub mod Division

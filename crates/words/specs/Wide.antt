@@ -2,7 +2,7 @@
 --   wideValue s      ==  high * 2^64 + low, or the negative of that
 use Prim.Native.Nat.{_+_, _*_, _^_}
 use lib.IntN.{ℤ}
-use Rattle.bits.specs.Sign.{withSign}
+use Rattle.words.specs.Sign.{withSign}
 use Rattle.words.specs.declared.wide.Wide.{Wide}
 
 unfoldable pub wideValue : Wide → ℤ

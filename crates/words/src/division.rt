@@ -4,7 +4,7 @@
 ghost use mathlib.Core.Bool.{cond, not};
 ghost use Prim.Native.Nat.{_<_, _-_};
 ghost use lib.IntN.{natAbs};
-ghost use Rattle.bits.specs.Sign.{withSign};
+ghost use Rattle.words.specs.Sign.{withSign};
 ghost use Rattle.words.specs.Division.{Allowed, Divided};
 use super::sign::absolute;
 use super::sign::is_negative;

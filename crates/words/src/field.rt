@@ -4,7 +4,7 @@ ghost use mathlib.Core.Path.{_≡_};
 ghost use Prim.Native.Nat.{_<_, _≤_, _*_, _%_, _-_, _^_};
 ghost use lib.IntN.{pos};
 ghost use Rattle.bits.specs.Testbit.{testbit, fill, ofBits};
-ghost use Rattle.bits.specs.Sign.{ofMagnitude};
+ghost use Rattle.words.specs.Sign.{ofMagnitude};
 ghost use Rattle.bits.specs.Shift.{shiftRight};
 ghost use Rattle.bits.specs.Division.{modℕ};
 ghost use Rattle.bits.specs.Field.{copyBitField, rotateBitField, reverseBitField};

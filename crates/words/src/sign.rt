@@ -5,7 +5,7 @@ ghost use Prim.Native.Nat.{_<_, _≤_, _^_};
 ghost use lib.IntN.{natAbs};
 ghost use lib.Signed.{mag};
 ghost use Rattle.bits.specs.Testbit.{isNegative, fits};
-ghost use Rattle.bits.specs.Sign.{withSign, ofMagnitude};
+ghost use Rattle.words.specs.Sign.{withSign, ofMagnitude};
 
 pub fn is_negative(x: i64) -> bool
     ensures { λ r. ⌜ r ≡ isNegative x ⌝ }

@@ -3,7 +3,7 @@ ghost use mathlib.Core.Path.{_≡_};
 ghost use mathlib.Core.Bool.{cond, not};
 ghost use Prim.Native.Nat.{_<_, _*_, _^_};
 ghost use lib.IntN.{natAbs, _+ℤ_, _-ℤ_, _*ℤ_};
-ghost use Rattle.bits.specs.Sign.{withSign};
+ghost use Rattle.words.specs.Sign.{withSign};
 ghost use Rattle.words.specs.Wide.{wideValue};
 use crate::sign::absolute;
 use crate::sign::is_negative;

@@ -5,7 +5,7 @@ use mathlib.Core.Bool.{true}
 use borrow.Author.Needs.{needs}
 use borrow.Author.Tests.{not-false}
 use Rattle.bits.specs.Testbit.{fits}
-use Rattle.bits.proofs.WordLaws.{back}
+use Rattle.words.proofs.WordLaws.{back}
 use Rattle.fixnum.specs.Domains.{isWidth}
 use Rattle.fixnum.proofs.CallLaws.{width-bounds}
 use Rattle.limbs.specs.Buffer.{integer}
@@ -21,12 +21,6 @@ width-ok c = sym (c .before .is-width .ensures) ∙ not-false _ (c .if1 .left)
 tested : (c : tie.After-is-fixnum) → let a = c .before .before .before .before in c .is-fixnum .result ≡ fits (a .args .width) (a .args .n)
 tested c = let a = c .before .before .before .before in c .is-fixnum .ensures ∙ ap (fits (a .args .width)) (back (a .fits .n))
 
-is-width-requires : tie.Need-is-width-requires
-is-width-requires c κs = search needs
-
-refuse-requires : tie.Need-refuse-requires
-refuse-requires c κs = search needs
-
 returns : tie.Need-returns
 unfolding toLimbsOutcome
 returns c = writes-refused _ _ (failed-by 1 _ (c .before .before .is-width .ensures) (c .before .if1 .taken)) (c .refuse .ensures)
@@ -36,20 +30,11 @@ is-fixnum-requires c κs =
     let b = width-bounds _ (width-ok c) in
     (omega arith, omega arith)
 
-refuse-requires-2 : tie.Need-refuse-requires-2
-refuse-requires-2 c κs = search needs
-
 returns-2 : tie.Need-returns-2
 unfolding toLimbsOutcome
 returns-2 c =
     let f = c .before .before in
     writes-refused _ _ (passed _ 1 _ (width-ok (f .before)) ∙ failed-by 4 _ (tested f) (c .before .if2 .taken)) (c .refuse2 .ensures)
-
-from-word-requires : tie.Need-from-word-requires
-from-word-requires c κs = search needs
-
-same-length : tie.Need-same-length
-same-length c = search needs
 
 returns-3 : tie.Need-returns-3
 unfolding toLimbsOutcome
@@ -64,12 +49,12 @@ pub fixnum-to-limbs-spec : {M : Type 1} → statement M
 fixnum-to-limbs-spec =
     tie.close
     (tie.spec
-    is-width-requires
-    refuse-requires
+    (λ c κs. search needs)
+    (λ c κs. search needs)
     returns
     is-fixnum-requires
-    refuse-requires-2
+    (λ c κs. search needs)
     returns-2
-    from-word-requires
-    same-length
+    (λ c κs. search needs)
+    (λ c. search needs)
     returns-3)

@@ -16,18 +16,9 @@ use Rattle.convert.proofs.limbs_to_fixnum.Tie as tie
 width-ok : (c : tie.Else1) → isWidth (c .before .before .before .args .width) ≡ true
 width-ok c = sym (c .before .is-width .ensures) ∙ not-false _ (c .if1 .left)
 
-is-width-requires : tie.Need-is-width-requires
-is-width-requires c κs = search needs
-
-refuse-number-requires : tie.Need-refuse-number-requires
-refuse-number-requires c κs = search needs
-
 returns : tie.Need-returns
 unfolding toFixnumOutcome
 returns c = c .refuse-number .ensures ∙ sym (ap number (failed-by 1 _ (c .before .before .is-width .ensures) (c .before .if1 .taken)))
-
-to-word-requires : tie.Need-to-word-requires
-to-word-requires c κs = search needs
 
 returns-2 : tie.Need-returns-2
 returns-2 c = no-word _ _ (width-ok (c .before .before .before)) (c .before .before .to-word .ensures) (c .if2 .taken)
@@ -36,9 +27,6 @@ is-fixnum-requires : tie.Need-is-fixnum-requires
 is-fixnum-requires c κs =
     let b = width-bounds _ (width-ok (c .before .before .before .before)) in
     (omega arith, omega arith)
-
-refuse-number-requires-2 : tie.Need-refuse-number-requires-2
-refuse-number-requires-2 c κs = search needs
 
 returns-3 : tie.Need-returns-3
 returns-3 c =
@@ -54,12 +42,12 @@ pub limbs-to-fixnum-spec : {M : Type 1} → statement M
 limbs-to-fixnum-spec =
     tie.close
     (tie.spec
-    is-width-requires
-    refuse-number-requires
+    (λ c κs. search needs)
+    (λ c κs. search needs)
     returns
-    to-word-requires
+    (λ c κs. search needs)
     returns-2
     is-fixnum-requires
-    refuse-number-requires-2
+    (λ c κs. search needs)
     returns-3
     returns-4)

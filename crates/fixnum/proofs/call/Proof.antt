@@ -29,22 +29,10 @@ accepts c = record {
   domains = sym (c .before .in-domains .ensures) ∙ not-false _ (c .if5 .left);
 }
 
-is-width-requires : tie.Need-is-width-requires
-is-width-requires c κs = search needs
-
-refuse-requires : tie.Need-refuse-requires
-refuse-requires c κs = search needs
-
 returns : tie.Need-returns
 unfolding fixnumAnswer
 returns c =
     c .refuse .ensures ∙ sym (failed 1 _ (sym (c .before .before .is-width .ensures) ∙ not-true _ (c .before .if1 .taken)))
-
-is-code-requires : tie.Need-is-code-requires
-is-code-requires c κs = search needs
-
-refuse-requires-2 : tie.Need-refuse-requires-2
-refuse-requires-2 c κs = search needs
 
 returns-2 : tie.Need-returns-2
 unfolding fixnumAnswer
@@ -54,9 +42,6 @@ returns-2 c =
 
 is-count-requires : tie.Need-is-count-requires
 is-count-requires c κs = code-ok c
-
-refuse-requires-3 : tie.Need-refuse-requires-3
-refuse-requires-3 c κs = search needs
 
 returns-3 : tie.Need-returns-3
 unfolding fixnumAnswer
@@ -69,9 +54,6 @@ returns-3 c =
 all-fixnums-requires : tie.Need-all-fixnums-requires
 all-fixnums-requires c κs = (width-ok (c .before .before .before .before), at-most-four _ _ (count-ok c))
 
-refuse-requires-4 : tie.Need-refuse-requires-4
-refuse-requires-4 c κs = search needs
-
 returns-4 : tie.Need-returns-4
 unfolding fixnumAnswer
 returns-4 c =
@@ -83,9 +65,6 @@ returns-4 c =
 
 in-domains-requires : tie.Need-in-domains-requires
 in-domains-requires c κs = (width-ok (c .before .before .before .before .before .before), (code-ok (c .before .before .before .before), count-ok (c .before .before)))
-
-refuse-requires-5 : tie.Need-refuse-requires-5
-refuse-requires-5 c κs = search needs
 
 returns-5 : tie.Need-returns-5
 unfolding fixnumAnswer
@@ -109,20 +88,20 @@ pub call-spec : {M : Type 1} → statement M
 call-spec =
     tie.close
     (tie.spec
-    is-width-requires
-    refuse-requires
+    (λ c κs. search needs)
+    (λ c κs. search needs)
     returns
-    is-code-requires
-    refuse-requires-2
+    (λ c κs. search needs)
+    (λ c κs. search needs)
     returns-2
     is-count-requires
-    refuse-requires-3
+    (λ c κs. search needs)
     returns-3
     all-fixnums-requires
-    refuse-requires-4
+    (λ c κs. search needs)
     returns-4
     in-domains-requires
-    refuse-requires-5
+    (λ c κs. search needs)
     returns-5
     operate-requires
     returns-6)

@@ -1,5 +1,5 @@
 -- `fixnum::done` meets its contract. Assumes nothing.
-use Rattle.bits.proofs.WordLaws.{back}
+use Rattle.words.proofs.WordLaws.{back}
 use Rattle.fixnum.specs.Answers as answers
 use Rattle.fixnum.proofs.done.Statement.{statement}
 use Rattle.fixnum.proofs.done.Tie as tie

@@ -15,14 +15,8 @@ unfolding truth
 as-number true = refl
 as-number false = refl
 
-cast-done : tie.Need-cast-done
-cast-done c = search needs
-
-done-requires : tie.Need-done-requires
-done-requires c κs = search needs
-
 returns : tie.Need-returns
 returns c = c .done .ensures ∙ done-cong (as-number (c .before .args .yes)) refl
 
 pub question-spec : {M : Type 1} → statement M
-question-spec = tie.close (tie.spec cast-done done-requires returns)
+question-spec = tie.close (tie.spec (λ c. search needs) (λ c κs. search needs) returns)

@@ -2,7 +2,7 @@
 use borrow.Author.Needs.{needs}
 use native.Mathlib.Omega.{arith}
 use mathlib.Core.Path.{sym, _∙_}
-use Rattle.bits.proofs.WordLaws.{back}
+use Rattle.words.proofs.WordLaws.{back}
 use Rattle.fixnum.proofs.CallLaws.{width-bounds, fits-word, done-cong, sized-fits, sized-large}
 use Rattle.fixnum.proofs.sized.Statement.{statement}
 use Rattle.fixnum.proofs.sized.Tie as tie
@@ -13,12 +13,6 @@ absolute-fits-requires c κs = let b = width-bounds (c .args .width) (c .pre .0)
 from-absolute-requires : tie.Need-from-absolute-requires
 from-absolute-requires c κs =
     fits-word (c .before .before .args .width) _ (c .before .before .pre .0) (sym (c .before .absolute-fits .ensures) ∙ c .if1 .taken)
-
-done-requires : tie.Need-done-requires
-done-requires c κs = search needs
-
-refuse-requires : tie.Need-refuse-requires
-refuse-requires c κs = search needs
 
 returns : tie.Need-returns
 returns c =
@@ -39,7 +33,7 @@ sized-spec =
     (tie.spec
     absolute-fits-requires
     from-absolute-requires
-    done-requires
-    refuse-requires
+    (λ c κs. search needs)
+    (λ c κs. search needs)
     returns
     returns-2)

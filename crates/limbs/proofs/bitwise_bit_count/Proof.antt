@@ -8,21 +8,12 @@ use Rattle.limbs.proofs.NumberLaws.{refused-operand, operand-lengths, a
 use Rattle.limbs.proofs.bitwise_bit_count.Statement.{statement}
 use Rattle.limbs.proofs.bitwise_bit_count.Tie as tie
 
-is-operand-requires : tie.Need-is-operand-requires
-is-operand-requires c κs = search needs
-
-refuse-number-requires : tie.Need-refuse-number-requires
-refuse-number-requires c κs = search needs
-
 returns : tie.Need-returns
 unfolding bitCountOutcome
 returns c = refused-operand _ _ (c .before .before .is-operand .ensures) (c .before .if1 .taken) (c .refuse-number .ensures)
 
 bit-count-requires : tie.Need-bit-count-requires
 bit-count-requires c κs = operand-lengths _ (c .before .is-operand .ensures) (c .if1 .left)
-
-done-requires : tie.Need-done-requires
-done-requires c κs = search needs
 
 returns-2 : tie.Need-returns-2
 unfolding bitCountOutcome
@@ -35,9 +26,9 @@ pub bitwise-bit-count-spec : {M : Type 1} → statement M
 bitwise-bit-count-spec =
     tie.close
     (tie.spec
-    is-operand-requires
-    refuse-number-requires
+    (λ c κs. search needs)
+    (λ c κs. search needs)
     returns
     bit-count-requires
-    done-requires
+    (λ c κs. search needs)
     returns-2)

@@ -4,7 +4,7 @@ use Prim.Native.Nat.{ℕ}
 use mathlib.Core.Path.{_≡_, sym, ap, ap₂, _∙_}
 use mathlib.Core.Bool.{true}
 use lib.IntN.{natAbs}
-use Rattle.bits.proofs.WordLaws.{back}
+use Rattle.words.proofs.WordLaws.{back}
 use Rattle.bits.specs.Field.{bitField}
 use Rattle.limbwords.specs.Value.{value}
 use Rattle.limbs.specs.Buffer.{integer}
@@ -30,12 +30,6 @@ from c = c .natural .ensures ∙ ap natAbs (back (c .before .before .before .bef
 to : (c : tie.After-natural2) → c .natural2 .result ≡ natAbs (c .before .before .before .before .before .before .args .end)
 to c = c .natural2 .ensures ∙ ap natAbs (back (c .before .before .before .before .before .before .fits .end))
 
-check-field-requires : tie.Need-check-field-requires
-check-field-requires c κs = search needs
-
-refuse-requires : tie.Need-refuse-requires
-refuse-requires c κs = search needs
-
 returns : tie.Need-returns
 unfolding bitFieldOutcome
 returns c = refused-call (decided (c .before .before)) _ (c .before .if1 .taken) (c .refuse .ensures)
@@ -49,9 +43,6 @@ natural-requires-2 c κs = rw (back (c .before .before .before .before .before .
 take-field-requires : tie.Need-take-field-requires
 take-field-requires c κs = (legal (c .before .before .before) .0, omega (arith, from (c .before .before), to (c .before), legal (c .before .before .before) .1 .order, legal (c .before .before .before) .1 .last))
 
-same-length : tie.Need-same-length
-same-length c = search needs
-
 returns-2 : tie.Need-returns-2
 unfolding bitFieldOutcome
 returns-2 c =
@@ -64,11 +55,11 @@ pub bitwise-bit-field-spec : {M : Type 1} → statement M
 bitwise-bit-field-spec =
     tie.close
     (tie.spec
-    check-field-requires
-    refuse-requires
+    (λ c κs. search needs)
+    (λ c κs. search needs)
     returns
     natural-requires
     natural-requires-2
     take-field-requires
-    same-length
+    (λ c. search needs)
     returns-2)

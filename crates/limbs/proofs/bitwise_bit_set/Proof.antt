@@ -14,7 +14,7 @@ use Rattle.bits.specs.Testbit.{testbit}
 use Rattle.limbwords.specs.Value.{value}
 use Rattle.limbs.specs.Operations.{bitSetOutcome}
 use Rattle.limbs.proofs.OutcomeLaws.{passed, failed}
-use Rattle.bits.proofs.WordLaws.{position-tested, position-natural}
+use Rattle.words.proofs.WordLaws.{position-tested, position-natural}
 use Rattle.limbs.proofs.NumberLaws.{refused-operand, operand-lengths, refused-number, answered, bit-from}
 use Rattle.limbs.proofs.bitwise_bit_set.Statement.{statement}
 use Rattle.limbs.proofs.bitwise_bit_set.Tie as tie
@@ -27,18 +27,9 @@ back c = toZ-ofZ w64 _ (c .fits .position)
 natural : (c : tie.Else2) → let q = toZ w64 (ofZ w64 (c .before .before .before .before .args .position)) in T (nonNeg q) × (natAbs q < 2 ^ 63)
 natural c = let a = c .before .before .before .before in position-natural (a .args .position) (back a) (a .fits .position .sfits) (c .if2 .left)
 
-is-operand-requires : tie.Need-is-operand-requires
-is-operand-requires c κs = search needs
-
-refuse-number-requires : tie.Need-refuse-number-requires
-refuse-number-requires c κs = search needs
-
 returns : tie.Need-returns
 unfolding bitSetOutcome
 returns c = refused-operand _ _ (c .before .before .is-operand .ensures) (c .before .if1 .taken) (c .refuse-number .ensures)
-
-refuse-number-requires-2 : tie.Need-refuse-number-requires-2
-refuse-number-requires-2 c κs = search needs
 
 returns-2 : tie.Need-returns-2
 unfolding bitSetOutcome
@@ -56,12 +47,6 @@ window-requires c κs =
     let e = c .before in
     (operand-lengths _ (e .before .is-operand .ensures) (e .if1 .left) .0, natural c .1)
 
-cast-done : tie.Need-cast-done
-cast-done c = search needs
-
-done-requires : tie.Need-done-requires
-done-requires c κs = search needs
-
 returns-3 : tie.Need-returns-3
 unfolding bitSetOutcome
 returns-3 c =
@@ -78,13 +63,13 @@ pub bitwise-bit-set-spec : {M : Type 1} → statement M
 bitwise-bit-set-spec =
     tie.close
     (tie.spec
-    is-operand-requires
-    refuse-number-requires
+    (λ c κs. search needs)
+    (λ c κs. search needs)
     returns
-    refuse-number-requires-2
+    (λ c κs. search needs)
     returns-2
     cast-window
     window-requires
-    cast-done
-    done-requires
+    (λ c. search needs)
+    (λ c κs. search needs)
     returns-3)

@@ -6,7 +6,7 @@ use mathlib.Core.Path.{_≡_, refl, sym, ap, ap₂, _∙_}
 use mathlib.Core.Bool.{true}
 use lib.IntN.{ℤ, pos, natAbs}
 use lib.Signed.{leZ}
-use Rattle.bits.proofs.WordLaws.{back, natural-pos}
+use Rattle.words.proofs.WordLaws.{back, natural-pos}
 use Rattle.bits.specs.Field.{copyBit, copyBitField}
 use Rattle.bits.specs.Range.{within}
 use Rattle.limbwords.specs.Value.{value}
@@ -43,12 +43,6 @@ start-is c = c .natural2 .ensures ∙ ap natAbs (back (c .before .before .before
 end-is : (c : tie.After-natural3) → c .natural3 .result ≡ natAbs (c .before .before .before .before .before .before .before .before .args .position)
 end-is c = c .natural3 .ensures ∙ ap natAbs (back (c .before .before .before .before .before .before .before .before .fits .position))
 
-check-bit-requires : tie.Need-check-bit-requires
-check-bit-requires c κs = search needs
-
-refuse-requires : tie.Need-refuse-requires
-refuse-requires c κs = search needs
-
 returns : tie.Need-returns
 unfolding copyBitOutcome
 returns c = refused-call (decided (c .before .before)) _ (c .before .if1 .taken) (c .refuse .ensures)
@@ -58,9 +52,6 @@ natural-requires c κs = rw (back (c .before .before .before .before .fits .bit)
 
 cast-t10 : tie.Need-cast-t10
 cast-t10 c = omega (arith, bit-is c, legal (c .before) .1 .1 .1)
-
-slice-aggregate-copy-field : tie.Need-slice-aggregate-copy-field
-slice-aggregate-copy-field c = search needs
 
 natural-requires-2 : tie.Need-natural-requires-2
 natural-requires-2 c κs = rw (back (c .before .before .before .before .before .before .fits .position)) (legal (c .before .before) .1 .0 .0)
@@ -76,9 +67,6 @@ unfolding isOperand mostLimbs
 copy-field-requires c κs =
     let l = legal (c .before .before .before .before .before) in
     ((l .0, refl), (omega (arith, start-is (c .before .before), end-is (c .before)), omega (arith, end-is (c .before), l .1 .0 .1)))
-
-same-length : tie.Need-same-length
-same-length c = search needs
 
 returns-2 : tie.Need-returns-2
 unfolding copyBitOutcome copyBit
@@ -96,15 +84,15 @@ pub bitwise-copy-bit-spec : {M : Type 1} → statement M
 bitwise-copy-bit-spec =
     tie.close
     (tie.spec
-    check-bit-requires
-    refuse-requires
+    (λ c κs. search needs)
+    (λ c κs. search needs)
     returns
     natural-requires
     cast-t10
-    slice-aggregate-copy-field
+    (λ c. search needs)
     natural-requires-2
     natural-requires-3
     add-copy-field
     copy-field-requires
-    same-length
+    (λ c. search needs)
     returns-2)

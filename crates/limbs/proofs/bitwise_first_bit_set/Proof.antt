@@ -8,21 +8,12 @@ use Rattle.limbs.proofs.NumberLaws.{refused-operand, operand-lengths, a
 use Rattle.limbs.proofs.bitwise_first_bit_set.Statement.{statement}
 use Rattle.limbs.proofs.bitwise_first_bit_set.Tie as tie
 
-is-operand-requires : tie.Need-is-operand-requires
-is-operand-requires c κs = search needs
-
-refuse-number-requires : tie.Need-refuse-number-requires
-refuse-number-requires c κs = search needs
-
 returns : tie.Need-returns
 unfolding firstBitSetOutcome
 returns c = refused-operand _ _ (c .before .before .is-operand .ensures) (c .before .if1 .taken) (c .refuse-number .ensures)
 
 first-bit-set-requires : tie.Need-first-bit-set-requires
 first-bit-set-requires c κs = operand-lengths _ (c .before .is-operand .ensures) (c .if1 .left)
-
-done-requires : tie.Need-done-requires
-done-requires c κs = search needs
 
 returns-2 : tie.Need-returns-2
 unfolding firstBitSetOutcome
@@ -35,9 +26,9 @@ pub bitwise-first-bit-set-spec : {M : Type 1} → statement M
 bitwise-first-bit-set-spec =
     tie.close
     (tie.spec
-    is-operand-requires
-    refuse-number-requires
+    (λ c κs. search needs)
+    (λ c κs. search needs)
     returns
     first-bit-set-requires
-    done-requires
+    (λ c κs. search needs)
     returns-2)

@@ -9,21 +9,9 @@ use borrow.Author.Needs.{needs}
 use Rattle.limbs.proofs.bitwise_if.Statement.{statement}
 use Rattle.limbs.proofs.bitwise_if.Tie as tie
 
-check-operands-requires : tie.Need-check-operands-requires
-check-operands-requires c κs = search needs
-
-refuse-requires : tie.Need-refuse-requires
-refuse-requires c κs = search needs
-
 returns : tie.Need-returns
 unfolding ifOutcome
 returns c = refused-call (c .before .before .check-operands .ensures) _ (c .before .if1 .taken) (c .refuse .ensures)
-
-most-requires : tie.Need-most-requires
-most-requires c κs = search needs
-
-most-requires-2 : tie.Need-most-requires-2
-most-requires-2 c κs = search needs
 
 run-requires : tie.Need-run-requires
 unfolding meaning Proper
@@ -47,9 +35,6 @@ run-requires c κs =
       ),
     )
 
-same-length : tie.Need-same-length
-same-length c = search needs
-
 returns-2 : tie.Need-returns-2
 unfolding ifOutcome meaning
 returns-2 c = done-call (c .before .before .before .before .before .before .before .check-operands .ensures) (c .before .before .before .before .before .before .if1 .left) refl (c .before .before .run .ensures)
@@ -58,11 +43,11 @@ pub bitwise-if-spec : {M : Type 1} → statement M
 bitwise-if-spec =
     tie.close
     (tie.spec
-    check-operands-requires
-    refuse-requires
+    (λ c κs. search needs)
+    (λ c κs. search needs)
     returns
-    most-requires
-    most-requires-2
+    (λ c κs. search needs)
+    (λ c κs. search needs)
     run-requires
-    same-length
+    (λ c. search needs)
     returns-2)

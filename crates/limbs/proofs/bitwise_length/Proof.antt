@@ -11,12 +11,6 @@ use Rattle.limbs.proofs.NumberLaws.{refused-operand, operand-lengths, a
 use Rattle.limbs.proofs.bitwise_length.Statement.{statement}
 use Rattle.limbs.proofs.bitwise_length.Tie as tie
 
-is-operand-requires : tie.Need-is-operand-requires
-is-operand-requires c κs = search needs
-
-refuse-number-requires : tie.Need-refuse-number-requires
-refuse-number-requires c κs = search needs
-
 returns : tie.Need-returns
 unfolding lengthOutcome
 returns c = refused-operand _ _ (c .before .before .is-operand .ensures) (c .before .if1 .taken) (c .refuse-number .ensures)
@@ -30,9 +24,6 @@ cast-done c =
     let (positive, most) = operand-lengths _ (e .before .is-operand .ensures) (e .if1 .left) in
     record { sfits = omega (arith, c .bit-length .ensures, value-length (e .before .before .before .args .x .now) positive) }
 
-done-requires : tie.Need-done-requires
-done-requires c κs = search needs
-
 returns-2 : tie.Need-returns-2
 unfolding lengthOutcome
 returns-2 c =
@@ -44,10 +35,10 @@ pub bitwise-length-spec : {M : Type 1} → statement M
 bitwise-length-spec =
     tie.close
     (tie.spec
-    is-operand-requires
-    refuse-number-requires
+    (λ c κs. search needs)
+    (λ c κs. search needs)
     returns
     bit-length-requires
     cast-done
-    done-requires
+    (λ c κs. search needs)
     returns-2)

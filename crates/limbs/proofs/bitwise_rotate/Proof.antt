@@ -5,7 +5,7 @@ use mathlib.Core.Path.{_≡_, sym, ap, ap₂, _∙_}
 use mathlib.Core.Bool.{true}
 use lib.IntN.{ℤ, pos, natAbs}
 use lib.Signed.{leZ}
-use Rattle.bits.proofs.WordLaws.{back, natural-pos}
+use Rattle.words.proofs.WordLaws.{back, natural-pos}
 use Rattle.bits.specs.Field.{rotateBitField}
 use Rattle.limbwords.specs.Value.{value}
 use Rattle.limbs.specs.Buffer.{unless, integer}
@@ -36,12 +36,6 @@ to c = c .natural2 .ensures ∙ ap natAbs (back (c .before .before .before .befo
 turns : (c : tie.After-natural3) → c .natural3 .result ≡ natAbs (c .before .before .before .before .before .before .before .args .count)
 turns c = c .natural3 .ensures ∙ ap natAbs (back (c .before .before .before .before .before .before .before .fits .count))
 
-check-rotation-requires : tie.Need-check-rotation-requires
-check-rotation-requires c κs = search needs
-
-refuse-requires : tie.Need-refuse-requires
-refuse-requires c κs = search needs
-
 returns : tie.Need-returns
 unfolding rotateOutcome
 returns c = refused-call (decided (c .before .before)) _ (c .before .if1 .taken) (c .refuse .ensures)
@@ -58,9 +52,6 @@ natural-requires-3 c κs = rw (back (c .before .before .before .before .before .
 rotate-field-requires : tie.Need-rotate-field-requires
 rotate-field-requires c κs = (legal (c .before .before .before .before) .0 .0, omega (arith, from (c .before .before .before), to (c .before .before), legal (c .before .before .before .before) .0 .1 .order, legal (c .before .before .before .before) .0 .1 .last))
 
-same-length : tie.Need-same-length
-same-length c = search needs
-
 returns-2 : tie.Need-returns-2
 unfolding rotateOutcome
 returns-2 c =
@@ -75,12 +66,12 @@ pub bitwise-rotate-spec : {M : Type 1} → statement M
 bitwise-rotate-spec =
     tie.close
     (tie.spec
-    check-rotation-requires
-    refuse-requires
+    (λ c κs. search needs)
+    (λ c κs. search needs)
     returns
     natural-requires
     natural-requires-2
     natural-requires-3
     rotate-field-requires
-    same-length
+    (λ c. search needs)
     returns-2)

@@ -6,10 +6,10 @@ use lib.IntN.{ℤ, natAbs}
 use lib.Signed.{mag}
 use mir.Syntax.{w64}
 use mir.Val.{toZ, ofZ}
-use Rattle.bits.proofs.WordLaws.{back}
+use Rattle.words.proofs.WordLaws.{back}
 use Rattle.limbs.specs.Operations.{isOperand, shiftOutcome}
 use Rattle.limbs.proofs.StageLaws.{refused-call, done-call, one-operand, legal-one}
-use Rattle.bits.proofs.WordLaws.{position-tested, natural-pos}
+use Rattle.words.proofs.WordLaws.{position-tested, natural-pos}
 use Rattle.limbs.proofs.ShiftCalls.{shift-left, shift-right}
 use borrow.Author.Needs.{needs}
 use Rattle.limbs.proofs.bitwise_shift.Statement.{statement}
@@ -18,12 +18,6 @@ use Rattle.limbs.proofs.bitwise_shift.Tie as tie
 -- the distance, as the calls get it
 abbrev distance : tie.Start → ℤ
 distance a = toZ w64 (ofZ w64 (a .args .distance))
-
-check-operands-requires : tie.Need-check-operands-requires
-check-operands-requires c κs = search needs
-
-refuse-requires : tie.Need-refuse-requires
-refuse-requires c κs = search needs
 
 returns : tie.Need-returns
 unfolding shiftOutcome
@@ -50,9 +44,6 @@ natural-requires c κs = position-tested (distance (c .before .before .before .b
 move-left-requires : tie.Need-move-left-requires
 move-left-requires c κs = legal (c .before .before .before)
 
-same-length : tie.Need-same-length
-same-length c = search needs
-
 returns-2 : tie.Need-returns-2
 unfolding shiftOutcome
 returns-2 c =
@@ -62,9 +53,6 @@ returns-2 c =
     done-call (one-operand _ (s .before .check-operands .ensures)) (s .if1 .left)
     (shift-right _ (legal s) (sym b ∙ e .complement .ensures))
     (c .before .before .move-right .ensures)
-
-same-length-2 : tie.Need-same-length-2
-same-length-2 c = search needs
 
 returns-3 : tie.Need-returns-3
 unfolding shiftOutcome
@@ -81,15 +69,15 @@ pub bitwise-shift-spec : {M : Type 1} → statement M
 bitwise-shift-spec =
     tie.close
     (tie.spec
-    check-operands-requires
-    refuse-requires
+    (λ c κs. search needs)
+    (λ c κs. search needs)
     returns
     complement-requires
     add-move-right
     move-right-requires
     natural-requires
     move-left-requires
-    same-length
+    (λ c. search needs)
     returns-2
-    same-length-2
+    (λ c. search needs)
     returns-3)

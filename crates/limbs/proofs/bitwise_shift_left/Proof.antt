@@ -7,7 +7,7 @@ use lib.Signed.{leZ}
 use mir.Syntax.{w64}
 use mir.Val.{toZ, ofZ}
 use Rattle.bits.specs.Shift.{shiftLeft}
-use Rattle.bits.proofs.WordLaws.{back}
+use Rattle.words.proofs.WordLaws.{back}
 use Rattle.limbwords.specs.Value.{value}
 use Rattle.limbs.specs.Operations.{isOperand, sized, shiftLeftOutcome}
 use Rattle.limbs.proofs.StageLaws.{refused-call, done-call}
@@ -15,12 +15,6 @@ use Rattle.limbs.proofs.ShiftCalls.{count-legal}
 use borrow.Author.Needs.{needs}
 use Rattle.limbs.proofs.bitwise_shift_left.Statement.{statement}
 use Rattle.limbs.proofs.bitwise_shift_left.Tie as tie
-
-check-count-requires : tie.Need-check-count-requires
-check-count-requires c κs = search needs
-
-refuse-requires : tie.Need-refuse-requires
-refuse-requires c κs = search needs
 
 returns : tie.Need-returns
 unfolding shiftLeftOutcome
@@ -39,9 +33,6 @@ natural-requires c κs = legal c .1
 move-left-requires : tie.Need-move-left-requires
 move-left-requires c κs = legal (c .before .before) .0
 
-same-length : tie.Need-same-length
-same-length c = search needs
-
 returns-2 : tie.Need-returns-2
 unfolding shiftLeftOutcome
 returns-2 c =
@@ -57,10 +48,10 @@ pub bitwise-shift-left-spec : {M : Type 1} → statement M
 bitwise-shift-left-spec =
     tie.close
     (tie.spec
-    check-count-requires
-    refuse-requires
+    (λ c κs. search needs)
+    (λ c κs. search needs)
     returns
     natural-requires
     move-left-requires
-    same-length
+    (λ c. search needs)
     returns-2)

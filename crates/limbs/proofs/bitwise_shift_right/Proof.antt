@@ -7,7 +7,7 @@ use lib.Signed.{leZ}
 use mir.Syntax.{w64}
 use mir.Val.{toZ, ofZ}
 use Rattle.bits.specs.Shift.{shiftRight}
-use Rattle.bits.proofs.WordLaws.{back}
+use Rattle.words.proofs.WordLaws.{back}
 use Rattle.limbwords.specs.Value.{value}
 use Rattle.limbs.specs.Buffer.{integer}
 use Rattle.limbs.specs.Operations.{isOperand, shiftRightOutcome}
@@ -16,12 +16,6 @@ use Rattle.limbs.proofs.ShiftCalls.{count-legal}
 use borrow.Author.Needs.{needs}
 use Rattle.limbs.proofs.bitwise_shift_right.Statement.{statement}
 use Rattle.limbs.proofs.bitwise_shift_right.Tie as tie
-
-check-count-requires : tie.Need-check-count-requires
-check-count-requires c κs = search needs
-
-refuse-requires : tie.Need-refuse-requires
-refuse-requires c κs = search needs
 
 returns : tie.Need-returns
 unfolding shiftRightOutcome
@@ -40,9 +34,6 @@ natural-requires c κs = legal c .1
 move-right-requires : tie.Need-move-right-requires
 move-right-requires c κs = legal (c .before .before) .0
 
-same-length : tie.Need-same-length
-same-length c = search needs
-
 returns-2 : tie.Need-returns-2
 unfolding shiftRightOutcome
 returns-2 c =
@@ -58,10 +49,10 @@ pub bitwise-shift-right-spec : {M : Type 1} → statement M
 bitwise-shift-right-spec =
     tie.close
     (tie.spec
-    check-count-requires
-    refuse-requires
+    (λ c κs. search needs)
+    (λ c κs. search needs)
     returns
     natural-requires
     move-right-requires
-    same-length
+    (λ c. search needs)
     returns-2)

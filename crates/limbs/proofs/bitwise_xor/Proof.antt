@@ -4,15 +4,9 @@ use borrow.Author.Needs.{needs}
 use Rattle.limbs.proofs.bitwise_xor.Statement.{statement}
 use Rattle.limbs.proofs.bitwise_xor.Tie as tie
 
-combine-operands-requires : tie.Need-combine-operands-requires
-combine-operands-requires c κs = search needs
-
-same-length : tie.Need-same-length
-same-length c = search needs
-
 returns : tie.Need-returns
 unfolding logicOf
 returns c = c .before .before .combine-operands .ensures
 
 pub bitwise-xor-spec : {M : Type 1} → statement M
-bitwise-xor-spec = tie.close (tie.spec combine-operands-requires same-length returns)
+bitwise-xor-spec = tie.close (tie.spec (λ c κs. search needs) (λ c. search needs) returns)

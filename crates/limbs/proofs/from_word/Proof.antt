@@ -1,7 +1,7 @@
 -- `limbs::from_word` meets its contract. Assumes nothing.
 use mathlib.Core.Path.{_≡_, sym, ap}
 use lib.Dec.{lit<}
-use Rattle.bits.proofs.WordLaws.{back}
+use Rattle.words.proofs.WordLaws.{back}
 use Rattle.limbwords.specs.Value.{bitsFrom}
 use Rattle.limbs.specs.Buffer.{integer}
 use Rattle.limbwords.specs.Results.{meaning, Proper}
@@ -10,21 +10,6 @@ use Rattle.limbs.proofs.ShiftCalls.{word-shifted, word-enough}
 use borrow.Author.Needs.{needs}
 use Rattle.limbs.proofs.from_word.Statement.{statement}
 use Rattle.limbs.proofs.from_word.Tie as tie
-
-word-bits-requires : tie.Need-word-bits-requires
-word-bits-requires c κs = search needs
-
-word-bits-requires-2 : tie.Need-word-bits-requires-2
-word-bits-requires-2 c κs = search needs
-
-slice-aggregate-run : tie.Need-slice-aggregate-run
-slice-aggregate-run c = search needs
-
-slice-aggregate-run-2 : tie.Need-slice-aggregate-run-2
-slice-aggregate-run-2 c = search needs
-
-slice-aggregate-run-3 : tie.Need-slice-aggregate-run-3
-slice-aggregate-run-3 c = search needs
 
 low : (c : tie.After-word-bits) → c .word-bits .result ≡ bitsFrom (c .before .before .args .v) 0
 low c = rw (back (c .before .before .fits .v)) at (c .word-bits .ensures)
@@ -39,9 +24,6 @@ run-requires c κs =
     let f = w .before .before .before .fits .v .sfits in
     (lit< tt, (lit< tt, (lit< tt, ((lit< tt, (lit< tt, lit< tt)), word-enough _ f (low (w .before)) (high w)))))
 
-same-length : tie.Need-same-length
-same-length c = search needs
-
 returns : tie.Need-returns
 unfolding meaning
 returns c =
@@ -53,11 +35,11 @@ pub from-word-spec : {M : Type 1} → statement M
 from-word-spec =
     tie.close
     (tie.spec
-    word-bits-requires
-    word-bits-requires-2
-    slice-aggregate-run
-    slice-aggregate-run-2
-    slice-aggregate-run-3
+    (λ c κs. search needs)
+    (λ c κs. search needs)
+    (λ c. search needs)
+    (λ c. search needs)
+    (λ c. search needs)
     run-requires
-    same-length
+    (λ c. search needs)
     returns)

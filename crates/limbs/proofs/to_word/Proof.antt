@@ -10,21 +10,12 @@ use Rattle.limbs.proofs.NumberLaws.{refused-operand, operand-lengths, r
 use Rattle.limbs.proofs.to_word.Statement.{statement}
 use Rattle.limbs.proofs.to_word.Tie as tie
 
-is-operand-requires : tie.Need-is-operand-requires
-is-operand-requires c κs = search needs
-
-refuse-number-requires : tie.Need-refuse-number-requires
-refuse-number-requires c κs = search needs
-
 returns : tie.Need-returns
 unfolding wordOutcome
 returns c = refused-operand _ _ (c .before .before .is-operand .ensures) (c .before .if1 .taken) (c .refuse-number .ensures)
 
 bit-length-requires : tie.Need-bit-length-requires
 bit-length-requires c κs = operand-lengths _ (c .before .is-operand .ensures) (c .if1 .left)
-
-refuse-number-requires-2 : tie.Need-refuse-number-requires-2
-refuse-number-requires-2 c κs = search needs
 
 returns-2 : tie.Need-returns-2
 unfolding wordOutcome
@@ -37,9 +28,6 @@ word-requires c κs =
     let e = c .before .before in
     (operand-lengths _ (e .before .is-operand .ensures) (e .if1 .left) .0, omega (arith, c .before .bit-length .ensures))
 
-done-requires : tie.Need-done-requires
-done-requires c κs = search needs
-
 returns-3 : tie.Need-returns-3
 unfolding wordOutcome
 returns-3 c =
@@ -51,12 +39,12 @@ pub to-word-spec : {M : Type 1} → statement M
 to-word-spec =
     tie.close
     (tie.spec
-    is-operand-requires
-    refuse-number-requires
+    (λ c κs. search needs)
+    (λ c κs. search needs)
     returns
     bit-length-requires
-    refuse-number-requires-2
+    (λ c κs. search needs)
     returns-2
     word-requires
-    done-requires
+    (λ c κs. search needs)
     returns-3)

@@ -11,27 +11,15 @@ use Rattle.net.proofs.after_rotate.Tie as tie
 returns : tie.Need-returns
 returns c = (λ h. absurd (omega (arith, h)), λ _. refl)
 
-rem-n : tie.Need-rem-n
-rem-n c = search needs
-
-rem-c : tie.Need-rem-c
-rem-c c = search needs
-
 sub-if2 : tie.Need-sub-if2
 sub-if2 c =
     let below : c .before .args .count % c .before .args .size < c .before .args .size = mod-lt (c .before .args .count) (omega arith) in
     omega (arith, below)
 
-add-result : tie.Need-add-result
-add-result c = search needs
-
 sub-result : tie.Need-sub-result
 sub-result c =
     let below : c .before .before .args .count % c .before .before .args .size < c .before .before .args .size = mod-lt (c .before .before .args .count) (omega arith) in
     omega (arith, below)
-
-sub-result-2 : tie.Need-sub-result-2
-sub-result-2 c = search needs
 
 returns-2 : tie.Need-returns-2
 returns-2 c = (λ h. rotate-below (c .before .before .args .size) (c .before .before .args .net) (c .before .before .args .count) (omega arith), λ h. absurd (omega (arith, h)))
@@ -42,4 +30,4 @@ returns-3 c = (λ h. rotate-above (c .before .before .args .size) (c .before .be
 pub after-rotate-spec : {M : Type 1} → statement M
 after-rotate-spec =
     tie.close
-    (tie.spec returns rem-n rem-c sub-if2 add-result sub-result sub-result-2 returns-2 returns-3)
+    (tie.spec returns (λ c. search needs) (λ c. search needs) sub-if2 (λ c. search needs) sub-result (λ c. search needs) returns-2 returns-3)

@@ -1,14 +1,11 @@
 -- `quebralua::ql_bitwise_bit_set` meets its contract. Assumes nothing.
-use Rattle.bits.proofs.WordLaws.{back}
+use Rattle.words.proofs.WordLaws.{back}
 use borrow.Author.Needs.{needs}
 use Rattle.quebralua.proofs.ql_bitwise_bit_set.Statement.{statement}
 use Rattle.quebralua.proofs.ql_bitwise_bit_set.Tie as tie
-
-bitwise-bit-set-requires : tie.Need-bitwise-bit-set-requires
-bitwise-bit-set-requires c κs = search needs
 
 returns : tie.Need-returns
 returns c = rw (back (c .before .before .fits .position)) at (c .bitwise-bit-set .ensures)
 
 pub ql-bitwise-bit-set-spec : {M : Type 1} → statement M
-ql-bitwise-bit-set-spec = tie.close (tie.spec bitwise-bit-set-requires returns)
+ql-bitwise-bit-set-spec = tie.close (tie.spec (λ c κs. search needs) returns)

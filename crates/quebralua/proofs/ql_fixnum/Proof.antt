@@ -1,11 +1,8 @@
 -- `quebralua::ql_fixnum` meets its contract. Assumes nothing.
-use Rattle.bits.proofs.WordLaws.{back}
+use Rattle.words.proofs.WordLaws.{back}
 use borrow.Author.Needs.{needs}
 use Rattle.quebralua.proofs.ql_fixnum.Statement.{statement}
 use Rattle.quebralua.proofs.ql_fixnum.Tie as tie
-
-call-requires : tie.Need-call-requires
-call-requires c κs = search needs
 
 returns : tie.Need-returns
 returns c =
@@ -13,4 +10,4 @@ returns c =
     rw (back (f .a)) at (rw (back (f .b)) at (rw (back (f .c)) at (rw (back (f .d)) at (c .call .ensures))))
 
 pub ql-fixnum-spec : {M : Type 1} → statement M
-ql-fixnum-spec = tie.close (tie.spec call-requires returns)
+ql-fixnum-spec = tie.close (tie.spec (λ c κs. search needs) returns)

@@ -5,7 +5,7 @@ use mathlib.Core.Path.{_≡_, refl, ap, ap₂, _∙_}
 use lib.IntN.{pos, negℤ, _+ℤ_, _-ℤ_, _*ℤ_}
 use mir.Syntax.{w64}
 use mir.Val.{SFits}
-use Rattle.bits.proofs.WordLaws.{back}
+use Rattle.words.proofs.WordLaws.{back}
 use Rattle.words.proofs.SignedLaws.{withSign-not, rejoin}
 use Rattle.words.proofs.WideLaws.{word-room}
 use Rattle.fixnum.specs.Domains.{arg}
@@ -30,18 +30,6 @@ second : (c : tie.After-y) → SFits w64 (arg (start c .args .t3) 1)
 unfolding arg
 second c = record { sfits = c .y .given }
 
-array-copy-out-x : tie.Need-array-copy-out-x
-array-copy-out-x c = search needs
-
-is-negative-requires : tie.Need-is-negative-requires
-is-negative-requires c κs = search needs
-
-absolute-requires : tie.Need-absolute-requires
-absolute-requires c κs = search needs
-
-sized-requires : tie.Need-sized-requires
-sized-requires c κs = search needs
-
 returns : tie.Need-returns
 unfolding arg
 returns c =
@@ -53,34 +41,13 @@ returns c =
     (withSign-not _ _ ∙ ap negℤ (rejoin (first x) (c .before .before .is-negative .ensures) (c .before .absolute .ensures))) refl
     ∙ negate-outcome _ _ (only-minus _ _ (a .pre .1) (a .pre .0 .arity) k) k
 
-array-copy-out-y : tie.Need-array-copy-out-y
-array-copy-out-y c = search needs
-
-widen-requires : tie.Need-widen-requires
-widen-requires c κs = search needs
-
 add-word-requires : tie.Need-add-word-requires
 unfolding arg
 add-word-requires c κs = let x = first (c .before .before .before .before) in word-room (c .widen .result) _ x (c .widen .ensures ∙ back x)
 
-exact-requires : tie.Need-exact-requires
-exact-requires c κs = search needs
-
-product-requires : tie.Need-product-requires
-product-requires c κs = search needs
-
-exact-requires-2 : tie.Need-exact-requires-2
-exact-requires-2 c κs = search needs
-
-widen-requires-2 : tie.Need-widen-requires-2
-widen-requires-2 c κs = search needs
-
 add-word-requires-2 : tie.Need-add-word-requires-2
 unfolding arg
 add-word-requires-2 c κs = let x = first (c .before .before .before .before) in word-room (c .widen2 .result) _ x (c .widen2 .ensures ∙ back x)
-
-exact-requires-3 : tie.Need-exact-requires-3
-exact-requires-3 c κs = search needs
 
 returns-2 : tie.Need-returns-2
 unfolding rows rowOf arg two
@@ -113,20 +80,20 @@ pub arithmetic-spec : {M : Type 1} → statement M
 arithmetic-spec =
     tie.close
     (tie.spec
-    array-copy-out-x
-    is-negative-requires
-    absolute-requires
-    sized-requires
+    (λ c. search needs)
+    (λ c κs. search needs)
+    (λ c κs. search needs)
+    (λ c κs. search needs)
     returns
-    array-copy-out-y
-    widen-requires
+    (λ c. search needs)
+    (λ c κs. search needs)
     add-word-requires
-    exact-requires
-    product-requires
-    exact-requires-2
-    widen-requires-2
+    (λ c κs. search needs)
+    (λ c κs. search needs)
+    (λ c κs. search needs)
+    (λ c κs. search needs)
     add-word-requires-2
-    exact-requires-3
+    (λ c κs. search needs)
     returns-2
     returns-3
     returns-4)

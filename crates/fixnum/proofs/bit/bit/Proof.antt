@@ -11,7 +11,7 @@ use mir.Val.{toZ, ofZ}
 use Rattle.bits.specs.Testbit.{testbit}
 use Rattle.bits.specs.Division.{mod0}
 use Rattle.bits.specs.Field.{copyBit}
-use Rattle.bits.proofs.WordLaws.{back-word}
+use Rattle.words.proofs.WordLaws.{back-word}
 use Rattle.fixnum.specs.Answers.{done, unless}
 use Rattle.fixnum.specs.Domains.{arg}
 use Rattle.fixnum.specs.Operations.{truth, question, copyBitAt}
@@ -69,20 +69,8 @@ answer c =
     copied (start (at c) .args .width) (number (at c)) (position (at c)) (new c .0)
     ∙ three-outcome (λ v x k b. (mod0 (copyBit x (natAbs k) b) (pos (2 ^ v)), pos 0)) (ap rowOf (code c)) (start (at c) .pre .0)
 
-array-copy-out-x : tie.Need-array-copy-out-x
-array-copy-out-x c = search needs
-
-array-copy-out-absolute : tie.Need-array-copy-out-absolute
-array-copy-out-absolute c = search needs
-
-absolute-requires : tie.Need-absolute-requires
-absolute-requires c κs = search needs
-
 bit-set-requires : tie.Need-bit-set-requires
 bit-set-requires c κs = omega (arith, bounds (c .before))
-
-question-requires : tie.Need-question-requires
-question-requires c κs = search needs
 
 returns : tie.Need-returns
 unfolding sized unless arg rows rowOf question
@@ -92,29 +80,14 @@ returns c =
     ∙ ap (λ (t : Bool). done (truth t) (pos 0)) (cc (c .before .bit-set .ensures, number a, position a))
     ∙ two-outcome (λ v x k. (truth (testbit x (natAbs k)), pos 0)) (ap rowOf (c .before .before .if1 .taken)) (start a .pre .0)
 
-array-copy-out-absolute-2 : tie.Need-array-copy-out-absolute-2
-array-copy-out-absolute-2 c = search needs
-
-absolute-requires-2 : tie.Need-absolute-requires-2
-absolute-requires-2 c κs = search needs
-
 sub-if2 : tie.Need-sub-if2
 sub-if2 c = omega (arith, bounds (at c))
-
-add-copy-bit-field : tie.Need-add-copy-bit-field
-add-copy-bit-field c = search needs
 
 copy-bit-field-requires : tie.Need-copy-bit-field-requires
 copy-bit-field-requires c κs = omega (arith, bounds (at (c .before)))
 
-done-requires : tie.Need-done-requires
-done-requires c κs = search needs
-
 extend-requires : tie.Need-extend-requires
 extend-requires c κs = omega (arith, bounds (at (c .before)))
-
-done-requires-2 : tie.Need-done-requires-2
-done-requires-2 c κs = search needs
 
 returns-2 : tie.Need-returns-2
 unfolding arg rows rowOf
@@ -139,19 +112,19 @@ pub bit-spec : {M : Type 1} → statement M
 bit-spec =
     tie.close
     (tie.spec
-    array-copy-out-x
-    array-copy-out-absolute
-    absolute-requires
+    (λ c. search needs)
+    (λ c. search needs)
+    (λ c κs. search needs)
     bit-set-requires
-    question-requires
+    (λ c κs. search needs)
     returns
-    array-copy-out-absolute-2
-    absolute-requires-2
+    (λ c. search needs)
+    (λ c κs. search needs)
     sub-if2
-    add-copy-bit-field
+    (λ c. search needs)
     copy-bit-field-requires
-    done-requires
+    (λ c κs. search needs)
     extend-requires
-    done-requires-2
+    (λ c κs. search needs)
     returns-2
     returns-3)

@@ -8,7 +8,7 @@ use lib.IntN.{ℤ, natAbs, _+ℤ_, _*ℤ_}
 use mir.Syntax.{w64}
 use mir.Val.{SFits}
 use Rattle.words.specs.Wide.{wideValue}
-use Rattle.bits.proofs.WordLaws.{back}
+use Rattle.words.proofs.WordLaws.{back}
 use Rattle.words.proofs.WideLaws.{word-room, sum-room, product-room}
 use Rattle.fixnum.specs.Answers.{unless}
 use Rattle.fixnum.specs.Domains.{arg}
@@ -66,18 +66,6 @@ sum : (c : tie.After-add-word3)
 unfolding arg
 sum c = cc (c .add-word3 .ensures, partial-sum (c .before), back (third (at (c .before .before))))
 
-array-copy-out-x : tie.Need-array-copy-out-x
-array-copy-out-x c = search needs
-
-array-copy-out-y : tie.Need-array-copy-out-y
-array-copy-out-y c = search needs
-
-array-copy-out-z : tie.Need-array-copy-out-z
-array-copy-out-z c = search needs
-
-product-requires : tie.Need-product-requires
-product-requires c κs = search needs
-
 add-word-requires : tie.Need-add-word-requires
 add-word-requires c κs = let a = c .before .before in product-room (c .product .result) _ _ (first a) (second a) (product-value c)
 
@@ -93,9 +81,6 @@ returns c =
     c .parts .ensures
     ∙ ap (λ (s : ℤ). sized 0 (a .args .width) (partsOf (a .args .width) s)) (total (c .before))
     ∙ three-outcome (λ v x y z. partsOf v ((x *ℤ y) +ℤ z)) (ap rowOf (c .before .before .before .if1 .taken)) (a .pre .0)
-
-widen-requires : tie.Need-widen-requires
-widen-requires c κs = search needs
 
 add-word-requires-2 : tie.Need-add-word-requires-2
 add-word-requires-2 c κs = word-room (c .widen .result) _ (first (at c)) (widened c)
@@ -122,14 +107,14 @@ pub carry-spec : {M : Type 1} → statement M
 carry-spec =
     tie.close
     (tie.spec
-    array-copy-out-x
-    array-copy-out-y
-    array-copy-out-z
-    product-requires
+    (λ c. search needs)
+    (λ c. search needs)
+    (λ c. search needs)
+    (λ c κs. search needs)
     add-word-requires
     parts-requires
     returns
-    widen-requires
+    (λ c κs. search needs)
     add-word-requires-2
     add-word-requires-3
     parts-requires-2

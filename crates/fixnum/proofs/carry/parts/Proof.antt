@@ -1,7 +1,7 @@
 -- `fixnum::carry::parts` meets its contract. Assumes nothing.
 use mathlib.Core.Path.{_∙_}
 use native.Mathlib.Omega.{arith}
-use Rattle.bits.proofs.WordLaws.{back}
+use Rattle.words.proofs.WordLaws.{back}
 use Rattle.fixnum.proofs.CallLaws.{width-bounds, done-cong}
 use borrow.Author.Needs.{needs}
 use Rattle.fixnum.proofs.carry.parts.Statement.{statement}
@@ -13,9 +13,6 @@ low-part-requires c κs = let b = width-bounds (c .args .width) (c .pre .0) in o
 high-part-requires : tie.Need-high-part-requires
 high-part-requires c κs = let b = width-bounds (c .before .args .width) (c .before .pre .0) in (omega arith, c .before .pre .1)
 
-done-requires : tie.Need-done-requires
-done-requires c κs = search needs
-
 returns : tie.Need-returns
 returns c =
     c .done .ensures
@@ -24,4 +21,4 @@ returns c =
     (back (record { sfits = c .before .high-part .ok }) ∙ c .before .high-part .ensures)
 
 pub parts-spec : {M : Type 1} → statement M
-parts-spec = tie.close (tie.spec low-part-requires high-part-requires done-requires returns)
+parts-spec = tie.close (tie.spec low-part-requires high-part-requires (λ c κs. search needs) returns)

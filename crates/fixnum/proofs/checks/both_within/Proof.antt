@@ -1,16 +1,10 @@
 -- `fixnum::checks::both_within` meets its contract. Assumes nothing.
 use mathlib.Core.Path.{sym, _∙_}
-use Rattle.bits.proofs.WordLaws.{back}
+use Rattle.words.proofs.WordLaws.{back}
 use Rattle.bits.proofs.Booleans.{and-first, and-second}
 use borrow.Author.Needs.{needs}
 use Rattle.fixnum.proofs.checks.both_within.Statement.{statement}
 use Rattle.fixnum.proofs.checks.both_within.Tie as tie
-
-within-requires : tie.Need-within-requires
-within-requires c κs = search needs
-
-within-requires-2 : tie.Need-within-requires-2
-within-requires-2 c κs = search needs
 
 returns : tie.Need-returns
 returns c =
@@ -25,4 +19,4 @@ returns-2 c =
     first ∙ and-first _ _ (sym first ∙ c .if1 .left)
 
 pub both-within-spec : {M : Type 1} → statement M
-both-within-spec = tie.close (tie.spec within-requires within-requires-2 returns returns-2)
+both-within-spec = tie.close (tie.spec (λ c κs. search needs) (λ c κs. search needs) returns returns-2)

@@ -10,7 +10,7 @@ use lib.ListN.{length}
 use mir.Syntax.{w64}
 use mir.Val.{toZ}
 use mir.ValLaws.{toZ-pos}
-use Rattle.bits.proofs.WordLaws.{back-word}
+use Rattle.words.proofs.WordLaws.{back-word}
 use Rattle.fixnum.specs.declared.checks.Shape.{Shape}
 use Rattle.fixnum.specs.Domains.{Domain, arg, isWidth, inDomains, inDomainsFrom}
 use Rattle.fixnum.specs.Table.{rowOf}
@@ -38,60 +38,6 @@ sub-last c = let b = width-bounds (c .args .width) (c .pre .0) in omega arith
 cast-last : tie.Need-cast-last
 cast-last c = let b = width-bounds (c .args .width) (c .pre .0) in record { sfits = omega arith }
 
-shape-of-requires : tie.Need-shape-of-requires
-shape-of-requires c κs = search needs
-
-enum-told : tie.Need-enum-told
-enum-told c = search needs
-
-enum-told-2 : tie.Need-enum-told-2
-enum-told-2 c = search needs
-
-array-copy-out-absolute : tie.Need-array-copy-out-absolute
-array-copy-out-absolute c = search needs
-
-absolute-requires : tie.Need-absolute-requires
-absolute-requires c κs = search needs
-
-enum-told-3 : tie.Need-enum-told-3
-enum-told-3 c = search needs
-
-array-copy-out-within : tie.Need-array-copy-out-within
-array-copy-out-within c = search needs
-
-within-requires : tie.Need-within-requires
-within-requires c κs = search needs
-
-enum-told-4 : tie.Need-enum-told-4
-enum-told-4 c = search needs
-
-array-copy-out-both-within : tie.Need-array-copy-out-both-within
-array-copy-out-both-within c = search needs
-
-array-copy-out-both-within-2 : tie.Need-array-copy-out-both-within-2
-array-copy-out-both-within-2 c = search needs
-
-both-within-requires : tie.Need-both-within-requires
-both-within-requires c κs = search needs
-
-enum-told-5 : tie.Need-enum-told-5
-enum-told-5 c = search needs
-
-array-copy-out-both-within-3 : tie.Need-array-copy-out-both-within-3
-array-copy-out-both-within-3 c = search needs
-
-array-copy-out-both-within-4 : tie.Need-array-copy-out-both-within-4
-array-copy-out-both-within-4 c = search needs
-
-array-copy-out-both-within-5 : tie.Need-array-copy-out-both-within-5
-array-copy-out-both-within-5 c = search needs
-
-both-within-requires-2 : tie.Need-both-within-requires-2
-both-within-requires-2 c κs = search needs
-
-enum-told-6 : tie.Need-enum-told-6
-enum-told-6 c = search needs
-
 -- the last position, as a word
 last : (w : ℕ) → isWidth w ≡ true → toZ w64 (w - 1) ≡ pos (w - 1)
 last w h = let b = width-bounds w h in toZ-pos w64 (w - 1) (omega arith)
@@ -100,36 +46,6 @@ sub-within : tie.Need-sub-within
 sub-within c =
     let a = c .before .before .before in
     rw (last (a .args .width) (a .pre .0)) (negated-last (a .args .width) (a .pre .0) .1)
-
-array-copy-out-within-2 : tie.Need-array-copy-out-within-2
-array-copy-out-within-2 c = search needs
-
-within-requires-2 : tie.Need-within-requires-2
-within-requires-2 c κs = search needs
-
-enum-told-7 : tie.Need-enum-told-7
-enum-told-7 c = search needs
-
-array-copy-out-within-3 : tie.Need-array-copy-out-within-3
-array-copy-out-within-3 c = search needs
-
-within-requires-3 : tie.Need-within-requires-3
-within-requires-3 c κs = search needs
-
-enum-told-8 : tie.Need-enum-told-8
-enum-told-8 c = search needs
-
-array-copy-out-is-rotation : tie.Need-array-copy-out-is-rotation
-array-copy-out-is-rotation c = search needs
-
-array-copy-out-is-rotation-2 : tie.Need-array-copy-out-is-rotation-2
-array-copy-out-is-rotation-2 c = search needs
-
-array-copy-out-is-rotation-3 : tie.Need-array-copy-out-is-rotation-3
-array-copy-out-is-rotation-3 c = search needs
-
-is-rotation-requires : tie.Need-is-rotation-requires
-is-rotation-requires c κs = search needs
 
 -- the domains of the shape that an arm of the match stands for are those of the code, and there are enough arguments
 answer : (c : tie.After-shape-of) {shape : Shape} {t : Bool} → c .shape-of .result ≡ shape
@@ -207,35 +123,35 @@ in-domains-spec =
     (tie.spec
     sub-last
     cast-last
-    shape-of-requires
-    enum-told
-    enum-told-2
-    array-copy-out-absolute
-    absolute-requires
-    enum-told-3
-    array-copy-out-within
-    within-requires
-    enum-told-4
-    array-copy-out-both-within
-    array-copy-out-both-within-2
-    both-within-requires
-    enum-told-5
-    array-copy-out-both-within-3
-    array-copy-out-both-within-4
-    array-copy-out-both-within-5
-    both-within-requires-2
-    enum-told-6
+    (λ c κs. search needs)
+    (λ c. search needs)
+    (λ c. search needs)
+    (λ c. search needs)
+    (λ c κs. search needs)
+    (λ c. search needs)
+    (λ c. search needs)
+    (λ c κs. search needs)
+    (λ c. search needs)
+    (λ c. search needs)
+    (λ c. search needs)
+    (λ c κs. search needs)
+    (λ c. search needs)
+    (λ c. search needs)
+    (λ c. search needs)
+    (λ c. search needs)
+    (λ c κs. search needs)
+    (λ c. search needs)
     sub-within
-    array-copy-out-within-2
-    within-requires-2
-    enum-told-7
-    array-copy-out-within-3
-    within-requires-3
-    enum-told-8
-    array-copy-out-is-rotation
-    array-copy-out-is-rotation-2
-    array-copy-out-is-rotation-3
-    is-rotation-requires
+    (λ c. search needs)
+    (λ c κs. search needs)
+    (λ c. search needs)
+    (λ c. search needs)
+    (λ c κs. search needs)
+    (λ c. search needs)
+    (λ c. search needs)
+    (λ c. search needs)
+    (λ c. search needs)
+    (λ c κs. search needs)
     returns
     returns-2
     returns-3

@@ -11,9 +11,6 @@ use Rattle.fixnum.proofs.TableLaws.{count-digits}
 use Rattle.fixnum.proofs.checks.is_count.Statement.{statement}
 use Rattle.fixnum.proofs.checks.is_count.Tie as tie
 
-counts-of-requires : tie.Need-counts-of-requires
-counts-of-requires c κs = search needs
-
 returns : tie.Need-returns
 unfolding isCount
 returns c =
@@ -30,4 +27,4 @@ returns-2 c =
     least ∙ and-first (leb (rowOf (a .args .code) .least) (a .args .count)) _ (sym least ∙ lt-leb _ _ (c .if1 .left))
 
 pub is-count-spec : {M : Type 1} → statement M
-is-count-spec = tie.close (tie.spec counts-of-requires returns returns-2)
+is-count-spec = tie.close (tie.spec (λ c κs. search needs) returns returns-2)

@@ -5,16 +5,13 @@ use lib.IntN.{ℤ, pos, _-ℤ_}
 use lib.Signed.{leZ}
 use mir.Syntax.{w64}
 use mir.Val.{SFits}
-use Rattle.bits.proofs.WordLaws.{back}
+use Rattle.words.proofs.WordLaws.{back}
 use Rattle.bits.specs.Range.{within}
 use Rattle.bits.proofs.Booleans.{both-left, both-right, and-first, and-second}
 use Rattle.fixnum.proofs.DomainLaws.{field-size}
 use borrow.Author.Needs.{needs}
 use Rattle.fixnum.proofs.checks.is_rotation.Statement.{statement}
 use Rattle.fixnum.proofs.checks.is_rotation.Tie as tie
-
-both-within-requires : tie.Need-both-within-requires
-both-within-requires c κs = search needs
 
 -- the field, as the first test says it of the arguments
 field : (c : tie.After-both-within) → c .both-within .result ≡ within (pos 0) (c .before .args .start) (c .before .args .last) && within (c .before .args .start) (c .before .args .end) (c .before .args .last)
@@ -58,4 +55,4 @@ returns-3 c =
     sym no ∙ and-first _ _ no
 
 pub is-rotation-spec : {M : Type 1} → statement M
-is-rotation-spec = tie.close (tie.spec both-within-requires sub-result returns returns-2 returns-3)
+is-rotation-spec = tie.close (tie.spec (λ c κs. search needs) sub-result returns returns-2 returns-3)

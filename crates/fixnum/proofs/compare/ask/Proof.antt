@@ -11,7 +11,7 @@ use lib.Signed.{ltZ}
 use mir.Syntax.{w64}
 use mir.Val.{toZ, ofZ}
 use Rattle.bits.specs.Testbit.{odd}
-use Rattle.bits.proofs.WordLaws.{back-word}
+use Rattle.words.proofs.WordLaws.{back-word}
 use Rattle.fixnum.specs.Answers.{done, unless}
 use Rattle.fixnum.specs.Domains.{arg}
 use Rattle.fixnum.specs.Operations.{question, truth, isZero, isPositive, isBelowZero, isOdd, isEven}
@@ -31,27 +31,6 @@ answer p c e =
     let x = back-word (arg (c .before .before .args .t3) 0) (c .before .x .given) in
     ap₂ (λ (y : ℤ) (n : ℕ). done (truth (p y n)) (pos 0)) x (c .absolute .ensures ∙ ap natAbs x)
     ∙ one-outcome (λ v y. (truth (p y (natAbs y)), pos 0)) e (c .before .before .pre .0)
-
-array-copy-out-x : tie.Need-array-copy-out-x
-array-copy-out-x c = search needs
-
-absolute-requires : tie.Need-absolute-requires
-absolute-requires c κs = search needs
-
-question-requires : tie.Need-question-requires
-question-requires c κs = search needs
-
-question-requires-2 : tie.Need-question-requires-2
-question-requires-2 c κs = search needs
-
-question-requires-3 : tie.Need-question-requires-3
-question-requires-3 c κs = search needs
-
-question-requires-4 : tie.Need-question-requires-4
-question-requires-4 c κs = search needs
-
-question-requires-5 : tie.Need-question-requires-5
-question-requires-5 c κs = search needs
 
 returns : tie.Need-returns
 unfolding rows rowOf arg question isZero
@@ -79,13 +58,13 @@ pub ask-spec : {M : Type 1} → statement M
 ask-spec =
     tie.close
     (tie.spec
-    array-copy-out-x
-    absolute-requires
-    question-requires
-    question-requires-2
-    question-requires-3
-    question-requires-4
-    question-requires-5
+    (λ c. search needs)
+    (λ c κs. search needs)
+    (λ c κs. search needs)
+    (λ c κs. search needs)
+    (λ c κs. search needs)
+    (λ c κs. search needs)
+    (λ c κs. search needs)
     returns
     returns-2
     returns-3

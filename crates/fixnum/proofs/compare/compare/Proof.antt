@@ -13,16 +13,10 @@ use Rattle.fixnum.proofs.CompareLaws.{compare-count, compare-outcome}
 use Rattle.fixnum.proofs.compare.compare.Statement.{statement}
 use Rattle.fixnum.proofs.compare.compare.Tie as tie
 
-relation-requires : tie.Need-relation-requires
-relation-requires c κs = search needs
-
 chain-requires : tie.Need-chain-requires
 chain-requires c κs =
     let b = compare-count (c .before .args .count) (c .before .args .code) (c .before .pre .1 .0) (c .before .pre .1 .1) (c .before .pre .0 .arity) in
     (omega arith, b .1)
-
-question-requires : tie.Need-question-requires
-question-requires c κs = search needs
 
 returns : tie.Need-returns
 returns c =
@@ -33,4 +27,4 @@ returns c =
     ∙ sym (compare-outcome (a .args .width) (counted (a .args .args) (a .args .count)) (a .args .code) (a .pre .1 .0) (a .pre .1 .1))
 
 pub compare-spec : {M : Type 1} → statement M
-compare-spec = tie.close (tie.spec relation-requires chain-requires question-requires returns)
+compare-spec = tie.close (tie.spec (λ c κs. search needs) chain-requires (λ c κs. search needs) returns)

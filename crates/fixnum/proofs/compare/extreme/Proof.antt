@@ -6,7 +6,7 @@ use mathlib.Core.List.{[]}
 use lib.IntN.{ℤ}
 use mir.Syntax.{w64}
 use mir.Val.{toZ, ofZ}
-use Rattle.bits.proofs.WordLaws.{back-word}
+use Rattle.words.proofs.WordLaws.{back-word}
 use Rattle.fixnum.specs.declared.loops.Fold.{Fold}
 use Rattle.fixnum.specs.declared.loops.Fold.the-variants.{Largest, Smallest}
 use Rattle.fixnum.specs.Domains.{arg}
@@ -31,20 +31,11 @@ from-first fold c e =
     ap (λ (x : ℤ). foldFrom (step fold) x (counted (a .t3) (a .count)))
     (arg-counted (a .t3) (a .count) 0 (between 1 (a .count) 4 (arity-row e (c .before .pre .0)) .0) ∙ sym (back-word (arg (a .t3) 0) (c .x .given)))
 
-array-copy-out-x : tie.Need-array-copy-out-x
-array-copy-out-x c = search needs
-
 fold-all-requires : tie.Need-fold-all-requires
 fold-all-requires c κs = at-most-four (c .before .before .args .code) (c .before .before .args .count) (c .before .before .pre .0 .arity)
 
-done-requires : tie.Need-done-requires
-done-requires c κs = search needs
-
 fold-all-requires-2 : tie.Need-fold-all-requires-2
 fold-all-requires-2 c κs = at-most-four (c .before .before .args .code) (c .before .before .args .count) (c .before .before .pre .0 .arity)
-
-done-requires-2 : tie.Need-done-requires-2
-done-requires-2 c κs = search needs
 
 returns : tie.Need-returns
 unfolding rows rowOf arg step largest
@@ -65,10 +56,10 @@ pub extreme-spec : {M : Type 1} → statement M
 extreme-spec =
     tie.close
     (tie.spec
-    array-copy-out-x
+    (λ c. search needs)
     fold-all-requires
-    done-requires
+    (λ c κs. search needs)
     fold-all-requires-2
-    done-requires-2
+    (λ c κs. search needs)
     returns
     returns-2)

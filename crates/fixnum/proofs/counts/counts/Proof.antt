@@ -10,7 +10,7 @@ use mir.Syntax.{w64}
 use mir.Val.{SFits, toZ, ofZ}
 use Rattle.bits.specs.Testbit.{bitLength}
 use Rattle.bits.specs.Count.{bitCount, firstBitSet}
-use Rattle.bits.proofs.WordLaws.{back}
+use Rattle.words.proofs.WordLaws.{back}
 use Rattle.fixnum.specs.declared.Answer.{Answer}
 use Rattle.fixnum.specs.Answers.{done, unless}
 use Rattle.fixnum.specs.Domains.{arg}
@@ -28,27 +28,6 @@ answer : (f : ℤ → ℤ) {w code n : ℕ} {xs : List ℤ} {r : Answer} {y : �
     → r ≡ outcome w code (counted xs n)
 unfolding sized unless one
 answer f d e h k o a = done-word d h (e ∙ ap f (back k)) ∙ one-outcome (λ v x. (f x, pos 0)) o a
-
-array-copy-out-x : tie.Need-array-copy-out-x
-array-copy-out-x c = search needs
-
-bit-count-requires : tie.Need-bit-count-requires
-bit-count-requires c κs = search needs
-
-done-requires : tie.Need-done-requires
-done-requires c κs = search needs
-
-length-requires : tie.Need-length-requires
-length-requires c κs = search needs
-
-done-requires-2 : tie.Need-done-requires-2
-done-requires-2 c κs = search needs
-
-first-bit-set-requires : tie.Need-first-bit-set-requires
-first-bit-set-requires c κs = search needs
-
-done-requires-3 : tie.Need-done-requires-3
-done-requires-3 c κs = search needs
 
 returns : tie.Need-returns
 unfolding rows rowOf arg
@@ -77,13 +56,13 @@ pub counts-spec : {M : Type 1} → statement M
 counts-spec =
     tie.close
     (tie.spec
-    array-copy-out-x
-    bit-count-requires
-    done-requires
-    length-requires
-    done-requires-2
-    first-bit-set-requires
-    done-requires-3
+    (λ c. search needs)
+    (λ c κs. search needs)
+    (λ c κs. search needs)
+    (λ c κs. search needs)
+    (λ c κs. search needs)
+    (λ c κs. search needs)
+    (λ c κs. search needs)
     returns
     returns-2
     returns-3)

@@ -17,36 +17,6 @@ above code e h = omega (arith, leb-false code 39 e)
 below : (code : ℕ) → code < 37 → 36 < code → 40 ≤ code
 below code l h = absurd (omega arith)
 
-compare-requires : tie.Need-compare-requires
-compare-requires c κs = search needs
-
-ask-requires : tie.Need-ask-requires
-ask-requires c κs = search needs
-
-extreme-requires : tie.Need-extreme-requires
-extreme-requires c κs = search needs
-
-arithmetic-requires : tie.Need-arithmetic-requires
-arithmetic-requires c κs = search needs
-
-divide-requires : tie.Need-divide-requires
-divide-requires c κs = search needs
-
-carry-requires : tie.Need-carry-requires
-carry-requires c κs = search needs
-
-logical-requires : tie.Need-logical-requires
-logical-requires c κs = search needs
-
-counts-requires : tie.Need-counts-requires
-counts-requires c κs = search needs
-
-bit-requires : tie.Need-bit-requires
-bit-requires c κs = search needs
-
-shift-requires : tie.Need-shift-requires
-shift-requires c κs = search needs
-
 fields-requires : tie.Need-fields-requires
 fields-requires c κs =
     let a = c .before .before .before .before in
@@ -89,16 +59,16 @@ pub operate-spec : {M : Type 1} → statement M
 operate-spec =
     tie.close
     (tie.spec
-    compare-requires
-    ask-requires
-    extreme-requires
-    arithmetic-requires
-    divide-requires
-    carry-requires
-    logical-requires
-    counts-requires
-    bit-requires
-    shift-requires
+    (λ c κs. search needs)
+    (λ c κs. search needs)
+    (λ c κs. search needs)
+    (λ c κs. search needs)
+    (λ c κs. search needs)
+    (λ c κs. search needs)
+    (λ c κs. search needs)
+    (λ c κs. search needs)
+    (λ c κs. search needs)
+    (λ c κs. search needs)
     fields-requires
     returns
     returns-2

@@ -5,8 +5,8 @@ use Prim.Native.Nat.{_<_}
 use lib.IntN.{ℤ, pos, natAbs}
 use mir.Syntax.{w64}
 use mir.Val.{toZ, ofZ}
-use Rattle.bits.specs.Sign.{withSign}
-use Rattle.bits.proofs.WordLaws.{back}
+use Rattle.words.specs.Sign.{withSign}
+use Rattle.words.proofs.WordLaws.{back}
 use Rattle.fixnum.specs.Answers.{unless}
 use Rattle.fixnum.specs.Domains.{arg}
 use Rattle.fixnum.specs.Operations.{pair}
@@ -38,30 +38,12 @@ remainder-is c =
     ∙ ap₂ (remainderOf (c .before .before .before .before .args .code)) (back (record { sfits = c .before .before .before .x .given }))
     (back (record { sfits = c .before .before .y .given }))
 
-array-copy-out-x : tie.Need-array-copy-out-x
-array-copy-out-x c = search needs
-
-array-copy-out-y : tie.Need-array-copy-out-y
-array-copy-out-y c = search needs
-
 divide-requires : tie.Need-divide-requires
 unfolding arg
 divide-requires c κs =
     let a = c .before .before in
     subst (λ (y : ℤ). 0 < natAbs y) {x = arg (a .args .t3) 1} (sym (back (record { sfits = c .y .given })))
     (divisor-positive (a .pre .0) (division-domains (a .args .code) (a .pre .1)))
-
-from-absolute-requires : tie.Need-from-absolute-requires
-from-absolute-requires c κs = search needs
-
-sized-requires : tie.Need-sized-requires
-sized-requires c κs = search needs
-
-done-requires : tie.Need-done-requires
-done-requires c κs = search needs
-
-sized-requires-2 : tie.Need-sized-requires-2
-sized-requires-2 c κs = search needs
 
 returns : tie.Need-returns
 unfolding pair
@@ -96,13 +78,13 @@ pub divide-spec : {M : Type 1} → statement M
 divide-spec =
     tie.close
     (tie.spec
-    array-copy-out-x
-    array-copy-out-y
+    (λ c. search needs)
+    (λ c. search needs)
     divide-requires
-    from-absolute-requires
-    sized-requires
-    done-requires
-    sized-requires-2
+    (λ c κs. search needs)
+    (λ c κs. search needs)
+    (λ c κs. search needs)
+    (λ c κs. search needs)
     returns
     returns-2
     returns-3)

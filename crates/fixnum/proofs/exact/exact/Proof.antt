@@ -9,12 +9,6 @@ use borrow.Author.Needs.{needs}
 use Rattle.fixnum.proofs.exact.exact.Statement.{statement}
 use Rattle.fixnum.proofs.exact.exact.Tie as tie
 
-sized-requires : tie.Need-sized-requires
-sized-requires c κs = search needs
-
-refuse-requires : tie.Need-refuse-requires
-refuse-requires c κs = search needs
-
 returns : tie.Need-returns
 returns c =
     let a = c .before .before .before .args in
@@ -28,4 +22,4 @@ returns-2 c =
     ∙ sym (sized-large (a .args .size) (a .args .width) _ _ (a .pre .1) (two-words-large (a .args .width) (a .args .s) (omega arith) (c .before .if1 .left)))
 
 pub exact-spec : {M : Type 1} → statement M
-exact-spec = tie.close (tie.spec sized-requires refuse-requires returns returns-2)
+exact-spec = tie.close (tie.spec (λ c κs. search needs) (λ c κs. search needs) returns returns-2)

@@ -7,9 +7,9 @@ use lib.IntN.{ℤ, pos, natAbs}
 use mir.Syntax.{w64}
 use mir.Val.{toZ, ofZ}
 use Rattle.bits.specs.Field.{bitField, copyBitField, rotateBitField, reverseBitField}
-use Rattle.bits.proofs.FieldWords.{copyBitField-put}
-use Rattle.bits.proofs.RotateWords.{bitField-number, rotate-put, reverse-put}
-use Rattle.bits.proofs.WordLaws.{back, back-word}
+use Rattle.words.proofs.FieldWords.{copyBitField-put}
+use Rattle.words.proofs.RotateWords.{bitField-number, rotate-put, reverse-put}
+use Rattle.words.proofs.WordLaws.{back, back-word}
 use Rattle.fixnum.specs.Answers.{unless}
 use Rattle.fixnum.specs.Domains.{arg}
 use Rattle.fixnum.specs.Operations.{three, four}
@@ -58,33 +58,12 @@ count c =
     let e = c .absolute3 .ensures ∙ ap natAbs (back-word (arg (start a .args .t3) 3) (c .before .absolute-arg3 .given)) in
     (ap pos e ∙ natural-pos (arg (start a .args .t3) 3) (r .1), omega (arith, e, positions a, r .2))
 
-array-copy-out-x : tie.Need-array-copy-out-x
-array-copy-out-x c = search needs
-
-array-copy-out-absolute : tie.Need-array-copy-out-absolute
-array-copy-out-absolute c = search needs
-
-absolute-requires : tie.Need-absolute-requires
-absolute-requires c κs = search needs
-
-array-copy-out-absolute-2 : tie.Need-array-copy-out-absolute-2
-array-copy-out-absolute-2 c = search needs
-
-absolute-requires-2 : tie.Need-absolute-requires-2
-absolute-requires-2 c κs = search needs
-
 bit-field-requires : tie.Need-bit-field-requires
 bit-field-requires c κs = bounds (c .before)
 
 cast-done : tie.Need-cast-done
 cast-done c =
     field-word _ (c .before .before .before .before .absolute .result) (field-lt _ _ _ (c .bit-field .ensures)) (bounds (c .before .before) .1)
-
-done-requires : tie.Need-done-requires
-done-requires c κs = search needs
-
-array-copy-out-low-bits : tie.Need-array-copy-out-low-bits
-array-copy-out-low-bits c = search needs
 
 sub-low-bits : tie.Need-sub-low-bits
 sub-low-bits c = bounds (c .before .before) .0
@@ -94,15 +73,6 @@ low-bits-requires c κs = omega (arith, bounds (c .before .before))
 
 copy-bit-field-requires : tie.Need-copy-bit-field-requires
 copy-bit-field-requires c κs = bounds (c .before .before .before)
-
-done-requires-2 : tie.Need-done-requires-2
-done-requires-2 c κs = search needs
-
-array-copy-out-absolute-3 : tie.Need-array-copy-out-absolute-3
-array-copy-out-absolute-3 c = search needs
-
-absolute-requires-3 : tie.Need-absolute-requires-3
-absolute-requires-3 c κs = search needs
 
 bit-field-requires-2 : tie.Need-bit-field-requires-2
 bit-field-requires-2 c κs = bounds (c .before .before .before)
@@ -117,9 +87,6 @@ rotate-requires c κs =
 copy-bit-field-requires-2 : tie.Need-copy-bit-field-requires-2
 copy-bit-field-requires-2 c κs = bounds (c .before .before .before .before .before)
 
-done-requires-3 : tie.Need-done-requires-3
-done-requires-3 c κs = search needs
-
 bit-field-requires-3 : tie.Need-bit-field-requires-3
 bit-field-requires-3 c κs = bounds (c .before)
 
@@ -131,9 +98,6 @@ reverse-requires c κs = (omega (arith, bounds (c .before .before)), field-lt _ 
 
 copy-bit-field-requires-3 : tie.Need-copy-bit-field-requires-3
 copy-bit-field-requires-3 c κs = bounds (c .before .before .before)
-
-done-requires-4 : tie.Need-done-requires-4
-done-requires-4 c κs = search needs
 
 returns : tie.Need-returns
 unfolding sized unless arg rows rowOf three
@@ -184,31 +148,31 @@ pub fields-spec : {M : Type 1} → statement M
 fields-spec =
     tie.close
     (tie.spec
-    array-copy-out-x
-    array-copy-out-absolute
-    absolute-requires
-    array-copy-out-absolute-2
-    absolute-requires-2
+    (λ c. search needs)
+    (λ c. search needs)
+    (λ c κs. search needs)
+    (λ c. search needs)
+    (λ c κs. search needs)
     bit-field-requires
     cast-done
-    done-requires
-    array-copy-out-low-bits
+    (λ c κs. search needs)
+    (λ c. search needs)
     sub-low-bits
     low-bits-requires
     copy-bit-field-requires
-    done-requires-2
-    array-copy-out-absolute-3
-    absolute-requires-3
+    (λ c κs. search needs)
+    (λ c. search needs)
+    (λ c κs. search needs)
     bit-field-requires-2
     sub-rotate
     rotate-requires
     copy-bit-field-requires-2
-    done-requires-3
+    (λ c κs. search needs)
     bit-field-requires-3
     sub-reverse
     reverse-requires
     copy-bit-field-requires-3
-    done-requires-4
+    (λ c κs. search needs)
     returns
     returns-2
     returns-3

@@ -3,7 +3,7 @@ use borrow.Author.Needs.{needs}
 use mathlib.Core.Path.{refl, ap₂, _∙_}
 use lib.IntN.{pos}
 use Rattle.bits.specs.Logical.{bitwiseAnd, bitwiseIor, bitwiseIf}
-use Rattle.bits.proofs.WordLaws.{back, not-word}
+use Rattle.words.proofs.WordLaws.{back, not-word}
 use Rattle.fixnum.specs.Answers.{unless}
 use Rattle.fixnum.specs.Domains.{arg}
 use Rattle.fixnum.specs.Operations.{three}
@@ -13,27 +13,6 @@ use Rattle.fixnum.proofs.CallLaws.{done-word}
 use Rattle.fixnum.proofs.MeaningLaws.{three-outcome}
 use Rattle.fixnum.proofs.logical.choose.Statement.{statement}
 use Rattle.fixnum.proofs.logical.choose.Tie as tie
-
-array-copy-out-x : tie.Need-array-copy-out-x
-array-copy-out-x c = search needs
-
-array-copy-out-y : tie.Need-array-copy-out-y
-array-copy-out-y c = search needs
-
-array-copy-out-z : tie.Need-array-copy-out-z
-array-copy-out-z c = search needs
-
-and-requires : tie.Need-and-requires
-and-requires c κs = search needs
-
-and-requires-2 : tie.Need-and-requires-2
-and-requires-2 c κs = search needs
-
-ior-requires : tie.Need-ior-requires
-ior-requires c κs = search needs
-
-done-requires : tie.Need-done-requires
-done-requires c κs = search needs
 
 returns : tie.Need-returns
 unfolding sized unless rows rowOf arg three bitwiseIf
@@ -54,11 +33,11 @@ pub choose-spec : {M : Type 1} → statement M
 choose-spec =
     tie.close
     (tie.spec
-    array-copy-out-x
-    array-copy-out-y
-    array-copy-out-z
-    and-requires
-    and-requires-2
-    ior-requires
-    done-requires
+    (λ c. search needs)
+    (λ c. search needs)
+    (λ c. search needs)
+    (λ c κs. search needs)
+    (λ c κs. search needs)
+    (λ c κs. search needs)
+    (λ c κs. search needs)
     returns)

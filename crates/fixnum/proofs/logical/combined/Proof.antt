@@ -17,20 +17,11 @@ use Rattle.fixnum.proofs.logical.combined.Tie as tie
 fold-all-requires : tie.Need-fold-all-requires
 fold-all-requires c κs = at-most-four (c .before .args .code) (c .before .args .count) (c .before .pre .0 .arity)
 
-done-requires : tie.Need-done-requires
-done-requires c κs = search needs
-
 fold-all-requires-2 : tie.Need-fold-all-requires-2
 fold-all-requires-2 c κs = at-most-four (c .before .args .code) (c .before .args .count) (c .before .pre .0 .arity)
 
-done-requires-2 : tie.Need-done-requires-2
-done-requires-2 c κs = search needs
-
 fold-all-requires-3 : tie.Need-fold-all-requires-3
 fold-all-requires-3 c κs = at-most-four (c .before .args .code) (c .before .args .count) (c .before .pre .0 .arity)
-
-done-requires-3 : tie.Need-done-requires-3
-done-requires-3 c κs = search needs
 
 returns : tie.Need-returns
 unfolding rows rowOf step bitwiseAnds bitwiseAll fill bitwiseAnd
@@ -53,11 +44,11 @@ combined-spec =
     tie.close
     (tie.spec
     fold-all-requires
-    done-requires
+    (λ c κs. search needs)
     fold-all-requires-2
-    done-requires-2
+    (λ c κs. search needs)
     fold-all-requires-3
-    done-requires-3
+    (λ c κs. search needs)
     returns
     returns-2
     returns-3)

@@ -11,9 +11,6 @@ not-requires c κs = accepted-at (c .match .keys1) (c .before .pre .0)
 choose-requires : tie.Need-choose-requires
 choose-requires c κs = accepted-at (c .match .keys2) (c .before .pre .0)
 
-combined-requires : tie.Need-combined-requires
-combined-requires c κs = search needs
-
 returns : tie.Need-returns
 returns c = c .not .ensures ∙ outcome-at _ _ (c .before .match .keys1)
 
@@ -25,4 +22,4 @@ returns-3 c = search needs
 
 pub logical-spec : {M : Type 1} → statement M
 logical-spec =
-    tie.close (tie.spec not-requires choose-requires combined-requires returns returns-2 returns-3)
+    tie.close (tie.spec not-requires choose-requires (λ c κs. search needs) returns returns-2 returns-3)

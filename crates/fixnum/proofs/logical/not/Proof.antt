@@ -3,7 +3,7 @@ use borrow.Author.Needs.{needs}
 use mathlib.Core.Path.{refl, ap, _∙_}
 use lib.IntN.{ℤ, pos}
 use Rattle.bits.specs.Logical.{bitwiseNot}
-use Rattle.bits.proofs.WordLaws.{not-word}
+use Rattle.words.proofs.WordLaws.{not-word}
 use Rattle.fixnum.specs.Answers.{done, unless}
 use Rattle.fixnum.specs.Domains.{arg}
 use Rattle.fixnum.specs.Operations.{one}
@@ -13,12 +13,6 @@ use Rattle.fixnum.proofs.MeaningLaws.{one-outcome}
 use Rattle.fixnum.proofs.logical.not.Statement.{statement}
 use Rattle.fixnum.proofs.logical.not.Tie as tie
 
-array-copy-out-x : tie.Need-array-copy-out-x
-array-copy-out-x c = search needs
-
-done-requires : tie.Need-done-requires
-done-requires c κs = search needs
-
 returns : tie.Need-returns
 unfolding sized unless rows rowOf arg one
 returns c =
@@ -27,4 +21,4 @@ returns c =
     ∙ one-outcome (λ v x. (bitwiseNot x, pos 0)) refl (c .before .before .pre)
 
 pub not-spec : {M : Type 1} → statement M
-not-spec = tie.close (tie.spec array-copy-out-x done-requires returns)
+not-spec = tie.close (tie.spec (λ c. search needs) (λ c κs. search needs) returns)

@@ -6,7 +6,7 @@ use mathlib.Core.Bool.{Bool, true, false, _&&_}
 use borrow.Author.Tests.{not-true, not-false}
 use lib.ListN.{drop}
 use Rattle.bits.specs.Testbit.{fits}
-use Rattle.bits.proofs.WordLaws.{back}
+use Rattle.words.proofs.WordLaws.{back}
 use Rattle.fixnum.specs.Domains.{arg}
 use Rattle.fixnum.specs.Calls.{counted, allFixnums}
 use Rattle.fixnum.proofs.CallLaws.{width-bounds}
@@ -35,23 +35,11 @@ turn c b e =
 loop-holds : tie.Need-loop-holds Inv-loop μ-loop
 loop-holds c = (omega arith, refl)
 
-mul-is-fixnum : tie.Need-mul-is-fixnum Inv-loop μ-loop
-mul-is-fixnum c = omega arith
-
-array-copy-out-is-fixnum : tie.Need-array-copy-out-is-fixnum Inv-loop μ-loop
-array-copy-out-is-fixnum c = omega arith
-
 is-fixnum-requires : tie.Need-is-fixnum-requires Inv-loop μ-loop
 is-fixnum-requires c κs = let b = width-bounds (c .before .before .before .args .width) (c .before .before .before .pre .0) in omega arith
 
 returns : tie.Need-returns Inv-loop μ-loop
 returns c = sym (turn (c .before) false (not-true _ (c .if1 .taken)))
-
-add-i : tie.Need-add-i Inv-loop μ-loop
-add-i c = omega arith
-
-loop-less : tie.Need-loop-less Inv-loop μ-loop
-loop-less c = omega arith
 
 loop-again : tie.Need-loop-again Inv-loop μ-loop
 loop-again c = (omega arith, turn (c .before) true (not-false _ (c .if1 .left)))
@@ -69,11 +57,11 @@ all-fixnums-spec =
     Inv-loop
     μ-loop
     loop-holds
-    mul-is-fixnum
-    array-copy-out-is-fixnum
+    (λ c. omega arith)
+    (λ c. omega arith)
     is-fixnum-requires
     returns
-    add-i
-    loop-less
+    (λ c. omega arith)
+    (λ c. omega arith)
     loop-again
     returns-2)

@@ -6,7 +6,7 @@ use mathlib.Core.Path.{_≡_, refl, sym, ap, _∙_}
 use mathlib.Core.Bool.{Bool, _&&_, and-assoc}
 use lib.ListN.{drop}
 use borrow.Author.Needs.{needs}
-use Rattle.bits.proofs.WordLaws.{back-word}
+use Rattle.words.proofs.WordLaws.{back-word}
 use Rattle.bits.proofs.Booleans.{and-true}
 use Rattle.fixnum.specs.Domains.{arg}
 use Rattle.fixnum.specs.Operations.{chain}
@@ -25,33 +25,6 @@ abbrev μ-loop : tie.MeasureT-loop
 
 loop-holds : tie.Need-loop-holds Inv-loop μ-loop
 loop-holds c = (omega arith, refl)
-
-add-loop : tie.Need-add-loop Inv-loop μ-loop
-add-loop c = omega arith
-
-mul-holds : tie.Need-mul-holds Inv-loop μ-loop
-mul-holds c = omega arith
-
-array-copy-out-holds : tie.Need-array-copy-out-holds Inv-loop μ-loop
-array-copy-out-holds c = omega arith
-
-add-holds : tie.Need-add-holds Inv-loop μ-loop
-add-holds c = omega arith
-
-mul-holds-2 : tie.Need-mul-holds-2 Inv-loop μ-loop
-mul-holds-2 c = omega arith
-
-array-copy-out-holds-2 : tie.Need-array-copy-out-holds-2 Inv-loop μ-loop
-array-copy-out-holds-2 c = omega arith
-
-holds-requires : tie.Need-holds-requires Inv-loop μ-loop
-holds-requires c κs = search needs
-
-add-i : tie.Need-add-i Inv-loop μ-loop
-add-i c = omega arith
-
-loop-less : tie.Need-loop-less Inv-loop μ-loop
-loop-less c = omega arith
 
 loop-again : tie.Need-loop-again Inv-loop μ-loop
 unfolding arg
@@ -86,14 +59,14 @@ chain-spec =
     Inv-loop
     μ-loop
     loop-holds
-    add-loop
-    mul-holds
-    array-copy-out-holds
-    add-holds
-    mul-holds-2
-    array-copy-out-holds-2
-    holds-requires
-    add-i
-    loop-less
+    (λ c. omega arith)
+    (λ c. omega arith)
+    (λ c. omega arith)
+    (λ c. omega arith)
+    (λ c. omega arith)
+    (λ c. omega arith)
+    (λ c κs. search needs)
+    (λ c. omega arith)
+    (λ c. omega arith)
     loop-again
     returns)

@@ -5,37 +5,13 @@ use lib.IntN.{ℤ}
 use lib.Signed.{mag}
 use mir.Syntax.{w64}
 use mir.Val.{toZ, ofZ}
-use Rattle.bits.proofs.WordLaws.{back, back-word}
+use Rattle.words.proofs.WordLaws.{back, back-word}
 use Rattle.fixnum.specs.declared.loops.Fold.{Fold}
 use Rattle.fixnum.specs.Operations.{larger, smaller}
 use Rattle.fixnum.specs.Steps.{step}
 use borrow.Author.Needs.{needs}
 use Rattle.fixnum.proofs.loops.combine.Statement.{statement}
 use Rattle.fixnum.proofs.loops.combine.Tie as tie
-
-enum-told : tie.Need-enum-told
-enum-told c = search needs
-
-enum-told-2 : tie.Need-enum-told-2
-enum-told-2 c = search needs
-
-enum-told-3 : tie.Need-enum-told-3
-enum-told-3 c = search needs
-
-and-requires : tie.Need-and-requires
-and-requires c κs = search needs
-
-enum-told-4 : tie.Need-enum-told-4
-enum-told-4 c = search needs
-
-ior-requires : tie.Need-ior-requires
-ior-requires c κs = search needs
-
-enum-told-5 : tie.Need-enum-told-5
-enum-told-5 c = search needs
-
-xor-requires : tie.Need-xor-requires
-xor-requires c κs = search needs
 
 -- a word that is the step of an arm of the match
 answer : (c : tie.Start) (z : ℤ) {fold : Fold} → c .args .fold ≡ fold → mag z < 2 ^ 63
@@ -82,14 +58,14 @@ pub combine-spec : {M : Type 1} → statement M
 combine-spec =
     tie.close
     (tie.spec
-    enum-told
-    enum-told-2
-    enum-told-3
-    and-requires
-    enum-told-4
-    ior-requires
-    enum-told-5
-    xor-requires
+    (λ c. search needs)
+    (λ c. search needs)
+    (λ c. search needs)
+    (λ c κs. search needs)
+    (λ c. search needs)
+    (λ c κs. search needs)
+    (λ c. search needs)
+    (λ c κs. search needs)
     returns
     returns-2
     returns-3

@@ -8,7 +8,7 @@ use lib.ListN.{drop}
 use mir.Syntax.{w64}
 use mir.Val.{toZ, ofZ}
 use borrow.Author.Needs.{needs}
-use Rattle.bits.proofs.WordLaws.{back, back-word}
+use Rattle.words.proofs.WordLaws.{back, back-word}
 use Rattle.fixnum.specs.Domains.{arg}
 use Rattle.fixnum.specs.Operations.{foldFrom}
 use Rattle.fixnum.specs.Steps.{step}
@@ -24,18 +24,6 @@ Inv-loop fold first count args value₀ i₀ value i =
 
 abbrev μ-loop : tie.MeasureT-loop
 μ-loop fold first count args value₀ i₀ value i = count - i
-
-array-copy-out-combine : tie.Need-array-copy-out-combine Inv-loop μ-loop
-array-copy-out-combine c = search needs
-
-combine-requires : tie.Need-combine-requires Inv-loop μ-loop
-combine-requires c κs = search needs
-
-array-copy-out-combine-2 : tie.Need-array-copy-out-combine-2 Inv-loop μ-loop
-array-copy-out-combine-2 c = search needs
-
-combine-requires-2 : tie.Need-combine-requires-2 Inv-loop μ-loop
-combine-requires-2 c κs = search needs
 
 returns : tie.Need-returns Inv-loop μ-loop
 unfolding arg
@@ -54,21 +42,6 @@ returns c =
 
 loop-holds : tie.Need-loop-holds Inv-loop μ-loop
 loop-holds c = (omega arith, refl)
-
-mul-combine : tie.Need-mul-combine Inv-loop μ-loop
-mul-combine c = omega arith
-
-array-copy-out-combine-3 : tie.Need-array-copy-out-combine-3 Inv-loop μ-loop
-array-copy-out-combine-3 c = omega arith
-
-combine-requires-3 : tie.Need-combine-requires-3 Inv-loop μ-loop
-combine-requires-3 c κs = search needs
-
-add-i : tie.Need-add-i Inv-loop μ-loop
-add-i c = omega arith
-
-loop-less : tie.Need-loop-less Inv-loop μ-loop
-loop-less c = omega arith
 
 loop-again : tie.Need-loop-again Inv-loop μ-loop
 unfolding arg
@@ -99,16 +72,16 @@ fold-all-spec =
     (tie.spec
     Inv-loop
     μ-loop
-    array-copy-out-combine
-    combine-requires
-    array-copy-out-combine-2
-    combine-requires-2
+    (λ c. search needs)
+    (λ c κs. search needs)
+    (λ c. search needs)
+    (λ c κs. search needs)
     returns
     loop-holds
-    mul-combine
-    array-copy-out-combine-3
-    combine-requires-3
-    add-i
-    loop-less
+    (λ c. omega arith)
+    (λ c. omega arith)
+    (λ c κs. search needs)
+    (λ c. omega arith)
+    (λ c. omega arith)
     loop-again
     returns-2)

@@ -1,7 +1,7 @@
 -- `fixnum::loops::holds` meets its contract. Assumes nothing.
 use mathlib.Core.Path.{_≡_, sym, ap, _∙_}
 use lib.IntN.{ℤ}
-use Rattle.bits.proofs.WordLaws.{back}
+use Rattle.words.proofs.WordLaws.{back}
 use Rattle.fixnum.specs.declared.loops.Relation.{Relation}
 use Rattle.fixnum.specs.Operations.{greater, greaterOrEqual}
 use Rattle.fixnum.specs.Steps.{holds}
@@ -9,21 +9,6 @@ use Rattle.fixnum.proofs.LoopLaws.{equal-word}
 use borrow.Author.Needs.{needs}
 use Rattle.fixnum.proofs.loops.holds.Statement.{statement}
 use Rattle.fixnum.proofs.loops.holds.Tie as tie
-
-enum-told : tie.Need-enum-told
-enum-told c = search needs
-
-enum-told-2 : tie.Need-enum-told-2
-enum-told-2 c = search needs
-
-enum-told-3 : tie.Need-enum-told-3
-enum-told-3 c = search needs
-
-enum-told-4 : tie.Need-enum-told-4
-enum-told-4 c = search needs
-
-enum-told-5 : tie.Need-enum-told-5
-enum-told-5 c = search needs
 
 -- the relation that an arm of the match stands for
 arm : (x y : ℤ) {r s : Relation} → r ≡ s → holds s x y ≡ holds r x y
@@ -54,11 +39,11 @@ pub holds-spec : {M : Type 1} → statement M
 holds-spec =
     tie.close
     (tie.spec
-    enum-told
-    enum-told-2
-    enum-told-3
-    enum-told-4
-    enum-told-5
+    (λ c. search needs)
+    (λ c. search needs)
+    (λ c. search needs)
+    (λ c. search needs)
+    (λ c. search needs)
     returns
     returns-2
     returns-3

@@ -2,28 +2,13 @@
 use mathlib.Core.Path.{ap, _∙_}
 use Prim.Native.Nat.{ℕ, _*_}
 use lib.IntN.{ℤ, pos}
-use Rattle.bits.specs.Sign.{withSign}
+use Rattle.words.specs.Sign.{withSign}
 use Rattle.words.proofs.SignedLaws.{rejoin}
 use Rattle.fixnum.specs.Calls.{sized}
 use Rattle.fixnum.proofs.ShiftLaws.{left-product}
 use borrow.Author.Needs.{needs}
 use Rattle.fixnum.proofs.shifts.left.Statement.{statement}
 use Rattle.fixnum.proofs.shifts.left.Tie as tie
-
-is-negative-requires : tie.Need-is-negative-requires
-is-negative-requires c κs = search needs
-
-absolute-requires : tie.Need-absolute-requires
-absolute-requires c κs = search needs
-
-power-requires : tie.Need-power-requires
-power-requires c κs = search needs
-
-multiply-requires : tie.Need-multiply-requires
-multiply-requires c κs = search needs
-
-exact-requires : tie.Need-exact-requires
-exact-requires c κs = search needs
 
 returns : tie.Need-returns
 returns c =
@@ -40,9 +25,9 @@ pub left-spec : {M : Type 1} → statement M
 left-spec =
     tie.close
     (tie.spec
-    is-negative-requires
-    absolute-requires
-    power-requires
-    multiply-requires
-    exact-requires
+    (λ c κs. search needs)
+    (λ c κs. search needs)
+    (λ c κs. search needs)
+    (λ c κs. search needs)
+    (λ c κs. search needs)
     returns)

@@ -5,21 +5,12 @@ use Prim.Native.Nat.{ℕ, _/_, _^_}
 use lib.Pow.{shr-le}
 use lib.Signed.{mag}
 use Rattle.bits.specs.Testbit.{isNegative}
-use Rattle.bits.specs.Sign.{ofMagnitude}
-use Rattle.bits.proofs.WordLaws.{back}
+use Rattle.words.specs.Sign.{ofMagnitude}
+use Rattle.words.proofs.WordLaws.{back}
 use Rattle.fixnum.proofs.ShiftLaws.{right-magnitude}
 use borrow.Author.Needs.{needs}
 use Rattle.fixnum.proofs.shifts.right.Statement.{statement}
 use Rattle.fixnum.proofs.shifts.right.Tie as tie
-
-is-negative-requires : tie.Need-is-negative-requires
-is-negative-requires c κs = search needs
-
-magnitude-requires : tie.Need-magnitude-requires
-magnitude-requires c κs = search needs
-
-shr-from-magnitude : tie.Need-shr-from-magnitude
-shr-from-magnitude c = search needs
 
 from-magnitude-requires : tie.Need-from-magnitude-requires
 from-magnitude-requires c κs =
@@ -43,8 +34,8 @@ pub right-spec : {M : Type 1} → statement M
 right-spec =
     tie.close
     (tie.spec
-    is-negative-requires
-    magnitude-requires
-    shr-from-magnitude
+    (λ c κs. search needs)
+    (λ c κs. search needs)
+    (λ c. search needs)
     from-magnitude-requires
     returns)

@@ -9,7 +9,7 @@ use mir.Syntax.{w64}
 use mir.Val.{toZ, ofZ}
 use Rattle.bits.specs.Testbit.{isNegative}
 use Rattle.bits.specs.Shift.{shiftLeft, shiftRight, arithmeticShift}
-use Rattle.bits.proofs.WordLaws.{back-word}
+use Rattle.words.proofs.WordLaws.{back-word}
 use Rattle.fixnum.specs.Answers.{unless}
 use Rattle.fixnum.specs.Domains.{arg}
 use Rattle.fixnum.specs.Operations.{two}
@@ -47,23 +47,8 @@ sign : (c : tie.After-is-negative) → isNegative (arg (start (c .before .before
 unfolding arg
 sign c = sym (c .is-negative .ensures ∙ ap isNegative (distance (c .before .before)))
 
-array-copy-out-x : tie.Need-array-copy-out-x
-array-copy-out-x c = search needs
-
-array-copy-out-distance : tie.Need-array-copy-out-distance
-array-copy-out-distance c = search needs
-
-absolute-requires : tie.Need-absolute-requires
-absolute-requires c κs = search needs
-
-is-negative-requires : tie.Need-is-negative-requires
-is-negative-requires c κs = search needs
-
 right-requires : tie.Need-right-requires
 right-requires c κs = bound (c .before .before .before)
-
-done-requires : tie.Need-done-requires
-done-requires c κs = search needs
 
 left-requires : tie.Need-left-requires
 left-requires c κs = (start (c .before .before .before) .pre .0 .width, bound (c .before .before .before))
@@ -73,9 +58,6 @@ left-requires-2 c κs = (start (c .before) .pre .0 .width, bound (c .before))
 
 right-requires-2 : tie.Need-right-requires-2
 right-requires-2 c κs = bound (c .before)
-
-done-requires-2 : tie.Need-done-requires-2
-done-requires-2 c κs = search needs
 
 returns : tie.Need-returns
 unfolding rows rowOf arg two
@@ -116,16 +98,16 @@ pub shift-spec : {M : Type 1} → statement M
 shift-spec =
     tie.close
     (tie.spec
-    array-copy-out-x
-    array-copy-out-distance
-    absolute-requires
-    is-negative-requires
+    (λ c. search needs)
+    (λ c. search needs)
+    (λ c κs. search needs)
+    (λ c κs. search needs)
     right-requires
-    done-requires
+    (λ c κs. search needs)
     left-requires
     left-requires-2
     right-requires-2
-    done-requires-2
+    (λ c κs. search needs)
     returns
     returns-2
     returns-3

@@ -1,6 +1,6 @@
 -- `limbs::check::check_bit` meets its contract. Assumes nothing.
 use mathlib.Core.Path.{sym, _∙_}
-use Rattle.bits.proofs.WordLaws.{back}
+use Rattle.words.proofs.WordLaws.{back}
 use Rattle.limbs.specs.Inner.{checked}
 use Rattle.limbs.specs.Operations.{operand}
 use Rattle.limbs.proofs.OutcomeLaws.{passed, failed, passed-by, failed-by}
@@ -8,16 +8,10 @@ use borrow.Author.Needs.{needs}
 use Rattle.limbs.proofs.check.check_bit.Statement.{statement}
 use Rattle.limbs.proofs.check.check_bit.Tie as tie
 
-is-operand-requires : tie.Need-is-operand-requires
-is-operand-requires c κs = search needs
-
 returns : tie.Need-returns
 unfolding operand checked
 returns c =
     record { so = λ o. failed-by 7 _ (c .before .is-operand .ensures) (c .if1 .taken) }
-
-within-requires : tie.Need-within-requires
-within-requires c κs = search needs
 
 returns-2 : tie.Need-returns-2
 unfolding operand checked
@@ -26,9 +20,6 @@ returns-2 c =
       so = λ o. passed-by 7 _ (c .before .before .before .is-operand .ensures) (c .before .before .if1 .left)
           ∙ failed-by 5 _ (rw (back (c .before .before .before .before .before .fits .k)) at (c .before .within .ensures)) (c .if2 .taken);
     }
-
-within-requires-2 : tie.Need-within-requires-2
-within-requires-2 c κs = search needs
 
 returns-3 : tie.Need-returns-3
 unfolding operand checked
@@ -52,10 +43,10 @@ pub check-bit-spec : {M : Type 1} → statement M
 check-bit-spec =
     tie.close
     (tie.spec
-    is-operand-requires
+    (λ c κs. search needs)
     returns
-    within-requires
+    (λ c κs. search needs)
     returns-2
-    within-requires-2
+    (λ c κs. search needs)
     returns-3
     returns-4)

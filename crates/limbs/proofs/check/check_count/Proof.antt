@@ -2,16 +2,13 @@
 use mathlib.Core.Path.{sym, ap, _∙_}
 use lib.IntN.{pos}
 use lib.Signed.{leZ}
-use Rattle.bits.proofs.WordLaws.{back}
+use Rattle.words.proofs.WordLaws.{back}
 use Rattle.limbs.specs.Inner.{checked}
 use Rattle.limbs.specs.Operations.{operand}
 use Rattle.limbs.proofs.OutcomeLaws.{passed, failed, passed-by, failed-by}
 use borrow.Author.Needs.{needs}
 use Rattle.limbs.proofs.check.check_count.Statement.{statement}
 use Rattle.limbs.proofs.check.check_count.Tie as tie
-
-is-operand-requires : tie.Need-is-operand-requires
-is-operand-requires c κs = search needs
 
 returns : tie.Need-returns
 unfolding operand checked
@@ -35,4 +32,4 @@ returns-3 c =
     }
 
 pub check-count-spec : {M : Type 1} → statement M
-check-count-spec = tie.close (tie.spec is-operand-requires returns returns-2 returns-3)
+check-count-spec = tie.close (tie.spec (λ c κs. search needs) returns returns-2 returns-3)

@@ -1,7 +1,7 @@
 -- `limbs::check::check_field` meets its contract. Assumes nothing.
 use mathlib.Core.Path.{_≡_, sym, ap, _∙_}
 use mathlib.Core.List.{List}
-use Rattle.bits.proofs.WordLaws.{back}
+use Rattle.words.proofs.WordLaws.{back}
 use Prim.Native.Nat.{ℕ}
 use Rattle.limbs.specs.Buffer.{Outcome}
 use Rattle.limbs.specs.Inner.{checked, Decides}
@@ -15,16 +15,10 @@ use Rattle.limbs.proofs.check.check_field.Tie as tie
 stages : (x y : List ℕ) {k : ℕ} → Decides (λ o. operand x (operand y (operand y o))) k → (o : Outcome) → operand x (operand y o) ≡ checked k o
 stages x y d o = ap (operand x) (sym (operand-twice y o)) ∙ d .so o
 
-check-operands-requires : tie.Need-check-operands-requires
-check-operands-requires c κs = search needs
-
 returns : tie.Need-returns
 returns c =
     let k = c .before .check-operands .ensures in
     record { so = λ o. stages _ _ k _ ∙ checked-refused _ _ (c .if1 .taken) ∙ sym (checked-refused _ o (c .if1 .taken)) }
-
-is-field-requires : tie.Need-is-field-requires
-is-field-requires c κs = search needs
 
 returns-2 : tie.Need-returns-2
 unfolding checked
@@ -42,4 +36,4 @@ returns-3 c =
 
 pub check-field-spec : {M : Type 1} → statement M
 check-field-spec =
-    tie.close (tie.spec check-operands-requires returns is-field-requires returns-2 returns-3)
+    tie.close (tie.spec (λ c κs. search needs) returns (λ c κs. search needs) returns-2 returns-3)

@@ -7,16 +7,10 @@ use borrow.Author.Needs.{needs}
 use Rattle.limbs.proofs.check.check_operands.Statement.{statement}
 use Rattle.limbs.proofs.check.check_operands.Tie as tie
 
-is-operand-requires : tie.Need-is-operand-requires
-is-operand-requires c κs = search needs
-
 returns : tie.Need-returns
 unfolding operand checked
 returns c =
     record { so = λ o. failed-by 7 _ (c .before .is-operand .ensures) (c .if1 .taken) }
-
-is-operand-requires-2 : tie.Need-is-operand-requires-2
-is-operand-requires-2 c κs = search needs
 
 returns-2 : tie.Need-returns-2
 unfolding operand checked
@@ -25,9 +19,6 @@ returns-2 c =
       so = λ o. passed-by 7 _ (c .before .before .before .is-operand .ensures) (c .before .before .if1 .left)
           ∙ failed-by 7 _ (c .before .is-operand2 .ensures) (c .if2 .taken);
     }
-
-is-operand-requires-3 : tie.Need-is-operand-requires-3
-is-operand-requires-3 c κs = search needs
 
 returns-3 : tie.Need-returns-3
 unfolding operand checked
@@ -51,10 +42,10 @@ pub check-operands-spec : {M : Type 1} → statement M
 check-operands-spec =
     tie.close
     (tie.spec
-    is-operand-requires
+    (λ c κs. search needs)
     returns
-    is-operand-requires-2
+    (λ c κs. search needs)
     returns-2
-    is-operand-requires-3
+    (λ c κs. search needs)
     returns-3
     returns-4)

@@ -2,7 +2,7 @@
 use mathlib.Core.Path.{sym, ap, _∙_}
 use lib.IntN.{pos}
 use lib.Signed.{leZ}
-use Rattle.bits.proofs.WordLaws.{back}
+use Rattle.words.proofs.WordLaws.{back}
 use Rattle.limbs.specs.Inner.{checked, Decides}
 use Rattle.limbs.specs.Operations.{operand, field}
 use Rattle.limbs.proofs.OutcomeLaws.{passed, failed, checked-none, checked-refused}
@@ -15,9 +15,6 @@ decided : (c : tie.After-check-field) → let a = c .before .before in Decides (
 decided c =
     let f = c .before .before .fits in
     one-field _ _ _ (rw (back (f .start), back (f .end)) at (c .check-field .ensures))
-
-check-field-requires : tie.Need-check-field-requires
-check-field-requires c κs = search needs
 
 returns : tie.Need-returns
 returns c = record { so = λ o. decided (c .before) .so _ ∙ checked-refused _ _ (c .if1 .taken) ∙ sym (checked-refused _ o (c .if1 .taken)) }
@@ -39,4 +36,4 @@ returns-3 c =
     }
 
 pub check-rotation-spec : {M : Type 1} → statement M
-check-rotation-spec = tie.close (tie.spec check-field-requires returns returns-2 returns-3)
+check-rotation-spec = tie.close (tie.spec (λ c κs. search needs) returns returns-2 returns-3)

@@ -2,16 +2,13 @@
 use mathlib.Core.Path.{sym, ap, _∙_}
 use lib.IntN.{ℤ, pos}
 use lib.Signed.{leZ}
-use Rattle.bits.proofs.WordLaws.{back}
+use Rattle.words.proofs.WordLaws.{back}
 use Rattle.limbs.specs.Buffer.{unless}
 use Rattle.limbs.specs.Operations.{field}
 use Rattle.limbs.proofs.OutcomeLaws.{passed, failed}
 use borrow.Author.Needs.{needs}
 use Rattle.limbs.proofs.check.is_field.Statement.{statement}
 use Rattle.limbs.proofs.check.is_field.Tie as tie
-
-within-requires : tie.Need-within-requires
-within-requires c κs = search needs
 
 returns : tie.Need-returns
 unfolding field
@@ -28,4 +25,4 @@ returns-2 c =
     λ o. failed _ 5 _ (sym first ∙ c .if1 .left) ∙ sym (failed _ 5 o (c .if1 .left))
 
 pub is-field-spec : {M : Type 1} → statement M
-is-field-spec = tie.close (tie.spec within-requires returns returns-2)
+is-field-spec = tie.close (tie.spec (λ c κs. search needs) returns returns-2)

@@ -4,7 +4,7 @@ use lib.IntN.{ℤ}
 use lib.Signed.{leZ}
 use mir.Syntax.{w64}
 use mir.Val.{SFits, toZ, ofZ}
-use Rattle.bits.proofs.WordLaws.{back}
+use Rattle.words.proofs.WordLaws.{back}
 use Rattle.bits.specs.Range.{within}
 use Rattle.bits.proofs.Booleans.{and-first, and-second}
 use Rattle.limbs.proofs.check.within.Statement.{statement}

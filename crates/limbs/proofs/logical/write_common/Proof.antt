@@ -19,33 +19,6 @@ abbrev μ-loop : tie.MeasureT-loop
 loop-holds : tie.Need-loop-holds Inv-loop μ-loop
 loop-holds c = turn-none _ _ _ _ (omega arith)
 
-mul-combine : tie.Need-mul-combine Inv-loop μ-loop
-mul-combine c = omega arith
-
-shared-slice-read-combine : tie.Need-shared-slice-read-combine Inv-loop μ-loop
-shared-slice-read-combine c = omega arith
-
-mul-combine-2 : tie.Need-mul-combine-2 Inv-loop μ-loop
-mul-combine-2 c = omega arith
-
-shared-slice-read-combine-2 : tie.Need-shared-slice-read-combine-2 Inv-loop μ-loop
-shared-slice-read-combine-2 c = omega arith
-
-combine-requires : tie.Need-combine-requires Inv-loop μ-loop
-combine-requires c κs = search needs
-
-mul-part : tie.Need-mul-part Inv-loop μ-loop
-mul-part c = omega arith
-
-slice-write-part : tie.Need-slice-write-part Inv-loop μ-loop
-slice-write-part c = omega arith
-
-add-j : tie.Need-add-j Inv-loop μ-loop
-add-j c = omega arith
-
-loop-less : tie.Need-loop-less Inv-loop μ-loop
-loop-less c = omega arith
-
 loop-again : tie.Need-loop-again Inv-loop μ-loop
 loop-again c =
     let a = c .before .before .before .before .before .before .before .before in
@@ -68,15 +41,15 @@ write-common-spec =
     Inv-loop
     μ-loop
     loop-holds
-    mul-combine
-    shared-slice-read-combine
-    mul-combine-2
-    shared-slice-read-combine-2
-    combine-requires
-    mul-part
-    slice-write-part
-    add-j
-    loop-less
+    (λ c. omega arith)
+    (λ c. omega arith)
+    (λ c. omega arith)
+    (λ c. omega arith)
+    (λ c κs. search needs)
+    (λ c. omega arith)
+    (λ c. omega arith)
+    (λ c. omega arith)
+    (λ c. omega arith)
     loop-again
     same-length
     returns)

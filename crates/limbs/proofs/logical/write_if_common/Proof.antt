@@ -20,39 +20,6 @@ abbrev μ-loop : tie.MeasureT-loop
 loop-holds : tie.Need-loop-holds Inv-loop μ-loop
 loop-holds c = turn-none _ _ _ _ (omega arith)
 
-mul-choose : tie.Need-mul-choose Inv-loop μ-loop
-mul-choose c = omega arith
-
-shared-slice-read-choose : tie.Need-shared-slice-read-choose Inv-loop μ-loop
-shared-slice-read-choose c = omega arith
-
-mul-choose-2 : tie.Need-mul-choose-2 Inv-loop μ-loop
-mul-choose-2 c = omega arith
-
-shared-slice-read-choose-2 : tie.Need-shared-slice-read-choose-2 Inv-loop μ-loop
-shared-slice-read-choose-2 c = omega arith
-
-mul-choose-3 : tie.Need-mul-choose-3 Inv-loop μ-loop
-mul-choose-3 c = omega arith
-
-shared-slice-read-choose-3 : tie.Need-shared-slice-read-choose-3 Inv-loop μ-loop
-shared-slice-read-choose-3 c = omega arith
-
-choose-requires : tie.Need-choose-requires Inv-loop μ-loop
-choose-requires c κs = search needs
-
-mul-part : tie.Need-mul-part Inv-loop μ-loop
-mul-part c = omega arith
-
-slice-write-part : tie.Need-slice-write-part Inv-loop μ-loop
-slice-write-part c = omega arith
-
-add-j : tie.Need-add-j Inv-loop μ-loop
-add-j c = omega arith
-
-loop-less : tie.Need-loop-less Inv-loop μ-loop
-loop-less c = omega arith
-
 loop-again : tie.Need-loop-again Inv-loop μ-loop
 loop-again c =
     let l = c .before .before .before .before .before in
@@ -78,17 +45,17 @@ write-if-common-spec =
     Inv-loop
     μ-loop
     loop-holds
-    mul-choose
-    shared-slice-read-choose
-    mul-choose-2
-    shared-slice-read-choose-2
-    mul-choose-3
-    shared-slice-read-choose-3
-    choose-requires
-    mul-part
-    slice-write-part
-    add-j
-    loop-less
+    (λ c. omega arith)
+    (λ c. omega arith)
+    (λ c. omega arith)
+    (λ c. omega arith)
+    (λ c. omega arith)
+    (λ c. omega arith)
+    (λ c κs. search needs)
+    (λ c. omega arith)
+    (λ c. omega arith)
+    (λ c. omega arith)
+    (λ c. omega arith)
     loop-again
     same-length
     returns)

@@ -9,18 +9,9 @@ use borrow.Author.Needs.{needs}
 use Rattle.limbs.proofs.operand.combine_operands.Statement.{statement}
 use Rattle.limbs.proofs.operand.combine_operands.Tie as tie
 
-check-operands-requires : tie.Need-check-operands-requires
-check-operands-requires c κs = search needs
-
-refuse-requires : tie.Need-refuse-requires
-refuse-requires c κs = search needs
-
 returns : tie.Need-returns
 unfolding bitwiseOutcome
 returns c = refused-call (two-operands _ _ (c .before .before .check-operands .ensures)) _ (c .before .if1 .taken) (c .refuse .ensures)
-
-most-requires : tie.Need-most-requires
-most-requires c κs = search needs
 
 run-requires : tie.Need-run-requires
 unfolding meaning Proper
@@ -42,9 +33,6 @@ run-requires c κs =
       ),
     )
 
-same-length : tie.Need-same-length
-same-length c = search needs
-
 returns-2 : tie.Need-returns-2
 unfolding bitwiseOutcome meaning
 returns-2 c = done-call (two-operands _ _ (c .before .before .before .before .before .before .check-operands .ensures)) (c .before .before .before .before .before .if1 .left) refl (c .before .before .run .ensures)
@@ -53,10 +41,10 @@ pub combine-operands-spec : {M : Type 1} → statement M
 combine-operands-spec =
     tie.close
     (tie.spec
-    check-operands-requires
-    refuse-requires
+    (λ c κs. search needs)
+    (λ c κs. search needs)
     returns
-    most-requires
+    (λ c κs. search needs)
     run-requires
-    same-length
+    (λ c. search needs)
     returns-2)

@@ -10,9 +10,6 @@ use borrow.Author.Needs.{needs}
 use Rattle.limbs.proofs.operand.copy_field.Statement.{statement}
 use Rattle.limbs.proofs.operand.copy_field.Tie as tie
 
-enough-for-requires : tie.Need-enough-for-requires
-enough-for-requires c κs = search needs
-
 run-requires : tie.Need-run-requires
 unfolding meaning Proper
 run-requires c κs =
@@ -33,12 +30,9 @@ run-requires c κs =
       ),
     )
 
-same-length : tie.Need-same-length
-same-length c = search needs
-
 returns : tie.Need-returns
 unfolding meaning
 returns c = c .before .before .run .ensures
 
 pub copy-field-spec : {M : Type 1} → statement M
-copy-field-spec = tie.close (tie.spec enough-for-requires run-requires same-length returns)
+copy-field-spec = tie.close (tie.spec (λ c κs. search needs) run-requires (λ c. search needs) returns)

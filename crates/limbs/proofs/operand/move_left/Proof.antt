@@ -7,15 +7,6 @@ use borrow.Author.Needs.{needs}
 use Rattle.limbs.proofs.operand.move_left.Statement.{statement}
 use Rattle.limbs.proofs.operand.move_left.Tie as tie
 
-capped-requires : tie.Need-capped-requires
-capped-requires c κs = search needs
-
-add-enough : tie.Need-add-enough
-add-enough c = search needs
-
-add-enough-2 : tie.Need-add-enough-2
-add-enough-2 c = search needs
-
 measure-requires : tie.Need-measure-requires
 unfolding meaning Proper
 measure-requires c κs =
@@ -23,9 +14,6 @@ measure-requires c κs =
     let n = legal-lengths _ (a .pre) in
     let r = capped-le (a .args .by) (c .capped .ensures) in
     (n .0, (n .0, (n .0, ((omega arith, (omega arith, omega (arith, n .1))), left-enough _ (a .pre) _))))
-
-refuse-requires : tie.Need-refuse-requires
-refuse-requires c κs = search needs
 
 returns : tie.Need-returns
 unfolding meaning
@@ -43,9 +31,6 @@ place-requires c κs =
     let r = capped-le (a .args .by) (m .before .capped .ensures) in
     (n, (n, (n, ((omega arith, omega (arith, c .before .if1 .left)), m .measure .ensures))))
 
-same-length : tie.Need-same-length
-same-length c = search needs
-
 returns-2 : tie.Need-returns-2
 unfolding meaning
 returns-2 c =
@@ -58,12 +43,12 @@ pub move-left-spec : {M : Type 1} → statement M
 move-left-spec =
     tie.close
     (tie.spec
-    capped-requires
-    add-enough
-    add-enough-2
+    (λ c κs. search needs)
+    (λ c. search needs)
+    (λ c. search needs)
     measure-requires
-    refuse-requires
+    (λ c κs. search needs)
     returns
     place-requires
-    same-length
+    (λ c. search needs)
     returns-2)

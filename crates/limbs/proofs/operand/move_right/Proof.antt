@@ -9,9 +9,6 @@ use borrow.Author.Needs.{needs}
 use Rattle.limbs.proofs.operand.move_right.Statement.{statement}
 use Rattle.limbs.proofs.operand.move_right.Tie as tie
 
-capped-requires : tie.Need-capped-requires
-capped-requires c κs = search needs
-
 enough-right-requires : tie.Need-enough-right-requires
 enough-right-requires c κs =
     let a = c .before .before .before in
@@ -26,9 +23,6 @@ run-requires c κs =
     let e = c .before .enough-right .ensures in
     (n .0, (n .0, (n .0, ((omega arith, (e .0 .0, omega (arith, n .1))), right-enough _ (a .pre) _ _ (e .0 .0) (e .1)))))
 
-same-length : tie.Need-same-length
-same-length c = search needs
-
 returns : tie.Need-returns
 unfolding meaning
 returns c =
@@ -36,4 +30,4 @@ returns c =
     writes-as (ap integer (capped-right _ (a .pre) (a .args .by) (c .before .before .before .before .before .capped .ensures))) (c .before .before .run .ensures)
 
 pub move-right-spec : {M : Type 1} → statement M
-move-right-spec = tie.close (tie.spec capped-requires enough-right-requires run-requires same-length returns)
+move-right-spec = tie.close (tie.spec (λ c κs. search needs) enough-right-requires run-requires (λ c. search needs) returns)

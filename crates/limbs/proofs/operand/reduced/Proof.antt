@@ -7,9 +7,6 @@ use borrow.Author.Needs.{needs}
 use Rattle.limbs.proofs.operand.reduced.Statement.{statement}
 use Rattle.limbs.proofs.operand.reduced.Tie as tie
 
-rem-result : tie.Need-rem-result
-rem-result c = search needs
-
 returns : tie.Need-returns
 returns c = let a = c .before .args in sym (ap (λ (b : Bool). cond b 0 (a .count % a .size)) (eq-eqb (a .size) 0 (c .if1 .taken)))
 
@@ -17,4 +14,4 @@ returns-2 : tie.Need-returns-2
 returns-2 c = let a = c .before .args in sym (ap (λ (b : Bool). cond b 0 (a .count % a .size)) (ne-eqb (a .size) 0 (c .if1 .left)))
 
 pub reduced-spec : {M : Type 1} → statement M
-reduced-spec = tie.close (tie.spec rem-result returns returns-2)
+reduced-spec = tie.close (tie.spec (λ c. search needs) returns returns-2)

@@ -14,15 +14,6 @@ use borrow.Author.Needs.{needs}
 use Rattle.limbs.proofs.operand.rotate_field.Statement.{statement}
 use Rattle.limbs.proofs.operand.rotate_field.Tie as tie
 
-sub-reduced : tie.Need-sub-reduced
-sub-reduced c = search needs
-
-reduced-requires : tie.Need-reduced-requires
-reduced-requires c κs = search needs
-
-enough-for-requires : tie.Need-enough-for-requires
-enough-for-requires c κs = search needs
-
 run-requires : tie.Need-run-requires
 unfolding meaning Proper
 run-requires c κs =
@@ -44,9 +35,6 @@ run-requires c κs =
       ),
     )
 
-same-length : tie.Need-same-length
-same-length c = search needs
-
 returns : tie.Need-returns
 unfolding meaning
 returns c =
@@ -56,4 +44,4 @@ returns c =
 pub rotate-field-spec : {M : Type 1} → statement M
 rotate-field-spec =
     tie.close
-    (tie.spec sub-reduced reduced-requires enough-for-requires run-requires same-length returns)
+    (tie.spec (λ c. search needs) (λ c κs. search needs) (λ c κs. search needs) run-requires (λ c. search needs) returns)

@@ -8,12 +8,6 @@ use borrow.Author.Needs.{needs}
 use Rattle.limbs.proofs.operand.take_field.Statement.{statement}
 use Rattle.limbs.proofs.operand.take_field.Tie as tie
 
-sub-enough : tie.Need-sub-enough
-sub-enough c = search needs
-
-add-enough : tie.Need-add-enough
-add-enough c = search needs
-
 run-requires : tie.Need-run-requires
 unfolding meaning Proper
 run-requires c κs =
@@ -32,12 +26,9 @@ run-requires c κs =
       ),
     )
 
-same-length : tie.Need-same-length
-same-length c = search needs
-
 returns : tie.Need-returns
 unfolding meaning
 returns c = c .before .before .run .ensures
 
 pub take-field-spec : {M : Type 1} → statement M
-take-field-spec = tie.close (tie.spec sub-enough add-enough run-requires same-length returns)
+take-field-spec = tie.close (tie.spec (λ c. search needs) (λ c. search needs) run-requires (λ c. search needs) returns)

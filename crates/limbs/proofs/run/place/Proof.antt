@@ -14,9 +14,6 @@ use Rattle.limbs.proofs.run.place.Tie as tie
 abbrev result : tie.Start → ℤ
 result a = meaning (a .args .operation) (value (a .args .x .now)) (value (a .args .y .now)) (value (a .args .z .now))
 
-refuse-requires : tie.Need-refuse-requires
-refuse-requires c κs = search needs
-
 returns : tie.Need-returns
 returns c =
     let a = c .before .before .before .before .before .before in
@@ -24,38 +21,17 @@ returns c =
     let l = no-room _ (a .args .out .now) (a .args .first) (a .args .n) n (omega (arith, n, limbCount-positive (result a))) in
     record { answer = c .refuse .ensures ∙ sym (l .0); buffer = sym (l .1) }
 
-sub-if2 : tie.Need-sub-if2
-sub-if2 c = search needs
-
-refuse-requires-2 : tie.Need-refuse-requires-2
-refuse-requires-2 c κs = search needs
-
 returns-2 : tie.Need-returns-2
 returns-2 c =
     let a = c .before .before .before .before .before .before .before in
     let l = no-room _ (a .args .out .now) (a .args .first) (a .args .n) (a .pre .1 .1 .1 .1) (omega arith) in
     record { answer = c .refuse2 .ensures ∙ sym (l .0); buffer = sym (l .1) }
 
-mul-write : tie.Need-mul-write
-mul-write c = search needs
-
-sub-write : tie.Need-sub-write
-sub-write c = search needs
-
-part-write-start : tie.Need-part-write-start
-part-write-start c = search needs
-
-part-write-end : tie.Need-part-write-end
-part-write-end c = search needs
-
 write-requires : tie.Need-write-requires
 write-requires c κs =
     let a = c .before .before .before .before .before .before .before in
     let p = a .pre in
     (p .0, (p .1 .0, (p .1 .1 .0, (p .1 .1 .1 .0 .0, (omega (arith, part-length (a .args .out .now) (a .args .first)), p .1 .1 .1 .0 .1)))))
-
-same-length : tie.Need-same-length
-same-length c = search needs
 
 returns-3 : tie.Need-returns-3
 returns-3 c =
@@ -71,15 +47,15 @@ pub place-spec : {M : Type 1} → statement M
 place-spec =
     tie.close
     (tie.spec
-    refuse-requires
+    (λ c κs. search needs)
     returns
-    sub-if2
-    refuse-requires-2
+    (λ c. search needs)
+    (λ c κs. search needs)
     returns-2
-    mul-write
-    sub-write
-    part-write-start
-    part-write-end
+    (λ c. search needs)
+    (λ c. search needs)
+    (λ c. search needs)
+    (λ c. search needs)
     write-requires
-    same-length
+    (λ c. search needs)
     returns-3)

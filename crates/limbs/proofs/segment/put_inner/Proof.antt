@@ -8,15 +8,6 @@ use borrow.Author.Needs.{needs}
 use Rattle.limbs.proofs.segment.put_inner.Statement.{statement}
 use Rattle.limbs.proofs.segment.put_inner.Tie as tie
 
-put-copied-requires : tie.Need-put-copied-requires
-put-copied-requires c κs = search needs
-
-put-joined-requires : tie.Need-put-joined-requires
-put-joined-requires c κs = search needs
-
-same-length : tie.Need-same-length
-same-length c = search needs
-
 returns : tie.Need-returns
 returns c =
     let a = c .before .before .before .before .before .before .before in
@@ -27,11 +18,8 @@ returns c =
     ap (bitsFrom (value (a .args .x .now))) at)
     (c .before .before .put-copied .ensures)
 
-same-length-2 : tie.Need-same-length-2
-same-length-2 c = search needs
-
 returns-2 : tie.Need-returns-2
 returns-2 c = search needs
 
 pub put-inner-spec : {M : Type 1} → statement M
-put-inner-spec = tie.close (tie.spec put-copied-requires put-joined-requires same-length returns same-length-2 returns-2)
+put-inner-spec = tie.close (tie.spec (λ c κs. search needs) (λ c κs. search needs) (λ c. search needs) returns (λ c. search needs) returns-2)

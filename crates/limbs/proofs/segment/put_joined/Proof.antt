@@ -21,45 +21,6 @@ loop-holds c = turn-none _ _ _ _ (omega arith)
 sub-join : tie.Need-sub-join Inv-loop μ-loop
 sub-join c = c .before .loop .inv .low
 
-add-join : tie.Need-add-join Inv-loop μ-loop
-add-join c = omega arith
-
-mul-join : tie.Need-mul-join Inv-loop μ-loop
-mul-join c = omega arith
-
-shared-slice-read-join : tie.Need-shared-slice-read-join Inv-loop μ-loop
-shared-slice-read-join c = omega arith
-
-sub-join-2 : tie.Need-sub-join-2 Inv-loop μ-loop
-sub-join-2 c = omega arith
-
-add-join-2 : tie.Need-add-join-2 Inv-loop μ-loop
-add-join-2 c = omega arith
-
-add-join-3 : tie.Need-add-join-3 Inv-loop μ-loop
-add-join-3 c = omega arith
-
-mul-join-2 : tie.Need-mul-join-2 Inv-loop μ-loop
-mul-join-2 c = omega arith
-
-shared-slice-read-join-2 : tie.Need-shared-slice-read-join-2 Inv-loop μ-loop
-shared-slice-read-join-2 c = omega arith
-
-join-requires : tie.Need-join-requires Inv-loop μ-loop
-join-requires c κs = search needs
-
-mul-part : tie.Need-mul-part Inv-loop μ-loop
-mul-part c = omega arith
-
-slice-write-part : tie.Need-slice-write-part Inv-loop μ-loop
-slice-write-part c = omega arith
-
-add-j : tie.Need-add-j Inv-loop μ-loop
-add-j c = omega arith
-
-loop-less : tie.Need-loop-less Inv-loop μ-loop
-loop-less c = omega arith
-
 loop-again : tie.Need-loop-again Inv-loop μ-loop
 loop-again c =
     let a = c .before .before .before .before .before .before .before in
@@ -85,19 +46,19 @@ put-joined-spec =
     μ-loop
     loop-holds
     sub-join
-    add-join
-    mul-join
-    shared-slice-read-join
-    sub-join-2
-    add-join-2
-    add-join-3
-    mul-join-2
-    shared-slice-read-join-2
-    join-requires
-    mul-part
-    slice-write-part
-    add-j
-    loop-less
+    (λ c. omega arith)
+    (λ c. omega arith)
+    (λ c. omega arith)
+    (λ c. omega arith)
+    (λ c. omega arith)
+    (λ c. omega arith)
+    (λ c. omega arith)
+    (λ c. omega arith)
+    (λ c κs. search needs)
+    (λ c. omega arith)
+    (λ c. omega arith)
+    (λ c. omega arith)
+    (λ c. omega arith)
     loop-again
     same-length
     returns)

@@ -19,27 +19,6 @@ loop-holds c = turn-none _ _ _ _ (omega arith)
 sub-window : tie.Need-sub-window Inv-loop μ-loop
 sub-window c = c .before .loop .inv .low
 
-mul-window : tie.Need-mul-window Inv-loop μ-loop
-mul-window c = omega arith
-
-add-window : tie.Need-add-window Inv-loop μ-loop
-add-window c = omega arith
-
-window-requires : tie.Need-window-requires Inv-loop μ-loop
-window-requires c κs = search needs
-
-mul-part : tie.Need-mul-part Inv-loop μ-loop
-mul-part c = omega arith
-
-slice-write-part : tie.Need-slice-write-part Inv-loop μ-loop
-slice-write-part c = omega arith
-
-add-j : tie.Need-add-j Inv-loop μ-loop
-add-j c = omega arith
-
-loop-less : tie.Need-loop-less Inv-loop μ-loop
-loop-less c = omega arith
-
 loop-again : tie.Need-loop-again Inv-loop μ-loop
 loop-again c = turn-more _ (c .before .before .loop .inv) (c .window .ensures) (c .before .loop-test .taken) (omega arith)
 
@@ -57,13 +36,13 @@ put-outer-spec =
     μ-loop
     loop-holds
     sub-window
-    mul-window
-    add-window
-    window-requires
-    mul-part
-    slice-write-part
-    add-j
-    loop-less
+    (λ c. omega arith)
+    (λ c. omega arith)
+    (λ c κs. search needs)
+    (λ c. omega arith)
+    (λ c. omega arith)
+    (λ c. omega arith)
+    (λ c. omega arith)
     loop-again
     same-length
     returns)

@@ -9,39 +9,6 @@ use borrow.Author.Needs.{needs}
 use Rattle.limbs.proofs.segment.put_windows.Statement.{statement}
 use Rattle.limbs.proofs.segment.put_windows.Tie as tie
 
-add-gap : tie.Need-add-gap
-add-gap c = search needs
-
-gap-requires : tie.Need-gap-requires
-gap-requires c κs = search needs
-
-sub-least : tie.Need-sub-least
-sub-least c = search needs
-
-least-requires : tie.Need-least-requires
-least-requires c κs = search needs
-
-add-inner : tie.Need-add-inner
-add-inner c = search needs
-
-put-inner-requires : tie.Need-put-inner-requires
-put-inner-requires c κs = search needs
-
-sub-put-outer : tie.Need-sub-put-outer
-sub-put-outer c = search needs
-
-mul-put-outer : tie.Need-mul-put-outer
-mul-put-outer c = search needs
-
-add-put-outer : tie.Need-add-put-outer
-add-put-outer c = search needs
-
-put-outer-requires : tie.Need-put-outer-requires
-put-outer-requires c κs = search needs
-
-same-length : tie.Need-same-length
-same-length c = search needs
-
 first-at : (z : ℤ) (at from j : ℕ) → bitsFrom z (32 * (at / 32) + at % 32 + 32 * (j - from)) ≡ bitsFrom z (at + 32 * (j - from))
 first-at z at from j = let e : 32 * (at / 32) + at % 32 + 32 * (j - from) ≡ at + 32 * (j - from) = omega arith in ap (bitsFrom z) e
 
@@ -61,15 +28,15 @@ pub put-windows-spec : {M : Type 1} → statement M
 put-windows-spec =
     tie.close
     (tie.spec
-    add-gap
-    gap-requires
-    sub-least
-    least-requires
-    add-inner
-    put-inner-requires
-    sub-put-outer
-    mul-put-outer
-    add-put-outer
-    put-outer-requires
-    same-length
+    (λ c. search needs)
+    (λ c κs. search needs)
+    (λ c. search needs)
+    (λ c κs. search needs)
+    (λ c. search needs)
+    (λ c κs. search needs)
+    (λ c. search needs)
+    (λ c. search needs)
+    (λ c. search needs)
+    (λ c κs. search needs)
+    (λ c. search needs)
     returns)

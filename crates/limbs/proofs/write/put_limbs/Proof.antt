@@ -21,18 +21,6 @@ limb-of-requires c κs =
     let p = c .before .before .before .before .before .before .pre in
     (p .0 .0, (p .0 .1 .0, (p .0 .1 .1, (p .1 .0, omega arith))))
 
-mul-part : tie.Need-mul-part Inv-loop μ-loop
-mul-part c = omega arith
-
-slice-write-part : tie.Need-slice-write-part Inv-loop μ-loop
-slice-write-part c = omega arith
-
-add-j : tie.Need-add-j Inv-loop μ-loop
-add-j c = omega arith
-
-loop-less : tie.Need-loop-less Inv-loop μ-loop
-loop-less c = omega arith
-
 loop-again : tie.Need-loop-again Inv-loop μ-loop
 loop-again c = turn-more _ (c .before .before .loop .inv) (c .limb-of .ensures) (c .before .loop-test .taken) (omega arith)
 
@@ -50,10 +38,10 @@ put-limbs-spec =
     μ-loop
     loop-holds
     limb-of-requires
-    mul-part
-    slice-write-part
-    add-j
-    loop-less
+    (λ c. omega arith)
+    (λ c. omega arith)
+    (λ c. omega arith)
+    (λ c. omega arith)
     loop-again
     same-length
     returns)

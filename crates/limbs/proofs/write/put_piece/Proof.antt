@@ -9,35 +9,11 @@ use borrow.Author.Needs.{needs}
 use Rattle.limbs.proofs.write.put_piece.Statement.{statement}
 use Rattle.limbs.proofs.write.put_piece.Tie as tie
 
-add-first-past : tie.Need-add-first-past
-add-first-past c = search needs
-
-first-past-requires : tie.Need-first-past-requires
-first-past-requires c κs = search needs
-
-first-past-requires-2 : tie.Need-first-past-requires-2
-first-past-requires-2 c κs = search needs
-
 put-limbs-requires : tie.Need-put-limbs-requires
 put-limbs-requires c κs =
     let p = c .before .before .before .before .before .before .before .before .pre in
     let i = c .before .before .first-past .ensures in
     ((p .0 .0, (p .0 .1 .0, p .0 .0)), (p .1 .0, ((i .low, omega (arith, i .high)), omega (arith, i .high))))
-
-mul-gap : tie.Need-mul-gap
-mul-gap c = search needs
-
-add-gap : tie.Need-add-gap
-add-gap c = search needs
-
-gap-requires : tie.Need-gap-requires
-gap-requires c κs = search needs
-
-put-windows-requires : tie.Need-put-windows-requires
-put-windows-requires c κs = search needs
-
-same-length : tie.Need-same-length
-same-length c = search needs
 
 returns : tie.Need-returns
 returns c =
@@ -57,13 +33,13 @@ pub put-piece-spec : {M : Type 1} → statement M
 put-piece-spec =
     tie.close
     (tie.spec
-    add-first-past
-    first-past-requires
-    first-past-requires-2
+    (λ c. search needs)
+    (λ c κs. search needs)
+    (λ c κs. search needs)
     put-limbs-requires
-    mul-gap
-    add-gap
-    gap-requires
-    put-windows-requires
-    same-length
+    (λ c. search needs)
+    (λ c. search needs)
+    (λ c κs. search needs)
+    (λ c κs. search needs)
+    (λ c. search needs)
     returns)

@@ -11,30 +11,12 @@ use borrow.Author.Needs.{needs}
 use Rattle.limbs.proofs.write.write.Statement.{statement}
 use Rattle.limbs.proofs.write.write.Tie as tie
 
-enum-known-operation : tie.Need-enum-known-operation
-enum-known-operation c = search needs
-
-write-logical-requires : tie.Need-write-logical-requires
-write-logical-requires c κs = search needs
-
-enum-told : tie.Need-enum-told
-enum-told c = search needs
-
-write-if-requires : tie.Need-write-if-requires
-write-if-requires c κs = search needs
-
-enum-known-operation-2 : tie.Need-enum-known-operation-2
-enum-known-operation-2 c = search needs
-
 write-shift-left-requires : tie.Need-write-shift-left-requires
 unfolding Proper
 write-shift-left-requires c κs =
     let p = c .before .before .before .before .before .before .before .before .pre in
     let q = subst Proper (c .before .before .operation2 .given .1) (p .1 .1 .1 .0) in
     ((p .0, q), p .1 .1 .1 .1)
-
-enum-known-operation-3 : tie.Need-enum-known-operation-3
-enum-known-operation-3 c = search needs
 
 write-shift-right-requires : tie.Need-write-shift-right-requires
 unfolding Proper
@@ -43,18 +25,12 @@ write-shift-right-requires c κs =
     let q = subst Proper (c .before .before .operation3 .given .1) (p .1 .1 .1 .0) in
     ((p .0, q), p .1 .1 .1 .1)
 
-enum-known-operation-4 : tie.Need-enum-known-operation-4
-enum-known-operation-4 c = search needs
-
 write-field-requires : tie.Need-write-field-requires
 unfolding Proper
 write-field-requires c κs =
     let p = c .before .before .before .before .before .before .before .before .pre in
     let q = subst Proper (c .before .before .operation4 .given .1) (p .1 .1 .1 .0) in
     (p .0, (q, p .1 .1 .1 .1))
-
-enum-known-operation-5 : tie.Need-enum-known-operation-5
-enum-known-operation-5 c = search needs
 
 write-copy-field-requires : tie.Need-write-copy-field-requires
 unfolding Proper
@@ -63,9 +39,6 @@ write-copy-field-requires c κs =
     let q = subst Proper (c .before .before .operation5 .given .1) (p .1 .1 .1 .0) in
     ((p .0, p .1 .0), (q, p .1 .1 .1 .1))
 
-enum-known-operation-6 : tie.Need-enum-known-operation-6
-enum-known-operation-6 c = search needs
-
 write-rotate-requires : tie.Need-write-rotate-requires
 unfolding Proper
 write-rotate-requires c κs =
@@ -73,18 +46,12 @@ write-rotate-requires c κs =
     let q = subst Proper (c .before .before .operation6 .given .1) (p .1 .1 .1 .0) in
     (p .0, (q .0, (q .1, p .1 .1 .1 .1)))
 
-enum-known-operation-7 : tie.Need-enum-known-operation-7
-enum-known-operation-7 c = search needs
-
 write-reverse-requires : tie.Need-write-reverse-requires
 unfolding Proper
 write-reverse-requires c κs =
     let p = c .before .before .before .before .before .before .before .before .pre in
     let q = subst Proper (c .before .before .operation7 .given .1) (p .1 .1 .1 .0) in
     (p .0, (q, p .1 .1 .1 .1))
-
-same-length : tie.Need-same-length
-same-length c = search needs
 
 -- the operation that an arm of the match stands for
 arm : (x y z : ℤ) (p q : List ℕ) (n : ℕ) {o r : Operation} → o ≡ r → Puts (limbAt (meaning r x y z)) p q 0 n → Puts (limbAt (meaning o x y z)) p q 0 n
@@ -94,50 +61,29 @@ returns : tie.Need-returns
 unfolding meaning
 returns c = arm _ _ _ _ _ _ (c .before .before .before .before .before .operation .given .1) (c .before .before .write-logical .ensures)
 
-same-length-2 : tie.Need-same-length-2
-same-length-2 c = search needs
-
 returns-2 : tie.Need-returns-2
 unfolding meaning
 returns-2 c = arm _ _ _ _ _ _ (c .before .before .before .before .enum-told .given .1) (c .before .before .write-if .ensures)
-
-same-length-3 : tie.Need-same-length-3
-same-length-3 c = search needs
 
 returns-3 : tie.Need-returns-3
 unfolding meaning
 returns-3 c = arm _ _ _ _ _ _ (c .before .before .before .before .before .operation2 .given .1) (c .before .before .write-shift-left .ensures)
 
-same-length-4 : tie.Need-same-length-4
-same-length-4 c = search needs
-
 returns-4 : tie.Need-returns-4
 unfolding meaning
 returns-4 c = arm _ _ _ _ _ _ (c .before .before .before .before .before .operation3 .given .1) (c .before .before .write-shift-right .ensures)
-
-same-length-5 : tie.Need-same-length-5
-same-length-5 c = search needs
 
 returns-5 : tie.Need-returns-5
 unfolding meaning
 returns-5 c = arm _ _ _ _ _ _ (c .before .before .before .before .before .operation4 .given .1) (c .before .before .write-field .ensures)
 
-same-length-6 : tie.Need-same-length-6
-same-length-6 c = search needs
-
 returns-6 : tie.Need-returns-6
 unfolding meaning
 returns-6 c = arm _ _ _ _ _ _ (c .before .before .before .before .before .operation5 .given .1) (c .before .before .write-copy-field .ensures)
 
-same-length-7 : tie.Need-same-length-7
-same-length-7 c = search needs
-
 returns-7 : tie.Need-returns-7
 unfolding meaning
 returns-7 c = arm _ _ _ _ _ _ (c .before .before .before .before .before .operation6 .given .1) (c .before .before .write-rotate .ensures)
-
-same-length-8 : tie.Need-same-length-8
-same-length-8 c = search needs
 
 returns-8 : tie.Need-returns-8
 unfolding meaning
@@ -147,35 +93,35 @@ pub write-spec : {M : Type 1} → statement M
 write-spec =
     tie.close
     (tie.spec
-    enum-known-operation
-    write-logical-requires
-    enum-told
-    write-if-requires
-    enum-known-operation-2
+    (λ c. search needs)
+    (λ c κs. search needs)
+    (λ c. search needs)
+    (λ c κs. search needs)
+    (λ c. search needs)
     write-shift-left-requires
-    enum-known-operation-3
+    (λ c. search needs)
     write-shift-right-requires
-    enum-known-operation-4
+    (λ c. search needs)
     write-field-requires
-    enum-known-operation-5
+    (λ c. search needs)
     write-copy-field-requires
-    enum-known-operation-6
+    (λ c. search needs)
     write-rotate-requires
-    enum-known-operation-7
+    (λ c. search needs)
     write-reverse-requires
-    same-length
+    (λ c. search needs)
     returns
-    same-length-2
+    (λ c. search needs)
     returns-2
-    same-length-3
+    (λ c. search needs)
     returns-3
-    same-length-4
+    (λ c. search needs)
     returns-4
-    same-length-5
+    (λ c. search needs)
     returns-5
-    same-length-6
+    (λ c. search needs)
     returns-6
-    same-length-7
+    (λ c. search needs)
     returns-7
-    same-length-8
+    (λ c. search needs)
     returns-8)

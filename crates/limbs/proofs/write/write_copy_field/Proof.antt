@@ -30,9 +30,6 @@ put-limbs-requires : tie.Need-put-limbs-requires
 unfolding Proper
 put-limbs-requires c κs = omega arith
 
-same-length : tie.Need-same-length
-same-length c = search needs
-
 returns : tie.Need-returns
 unfolding meaning
 returns c =
@@ -49,5 +46,5 @@ write-copy-field-spec =
     put-piece-requires-2
     put-piece-requires-3
     put-limbs-requires
-    same-length
+    (λ c. search needs)
     returns)

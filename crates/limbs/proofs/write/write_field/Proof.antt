@@ -7,9 +7,6 @@ use borrow.Author.Needs.{needs}
 use Rattle.limbs.proofs.write.write_field.Statement.{statement}
 use Rattle.limbs.proofs.write.write_field.Tie as tie
 
-sub-t9 : tie.Need-sub-t9
-sub-t9 c = search needs
-
 put-piece-requires : tie.Need-put-piece-requires
 unfolding meaning Proper
 put-piece-requires c κs =
@@ -20,9 +17,6 @@ put-limbs-requires : tie.Need-put-limbs-requires
 unfolding Proper
 put-limbs-requires c κs = omega arith
 
-same-length : tie.Need-same-length
-same-length c = search needs
-
 returns : tie.Need-returns
 unfolding meaning
 returns c =
@@ -31,4 +25,4 @@ returns c =
 
 pub write-field-spec : {M : Type 1} → statement M
 write-field-spec =
-    tie.close (tie.spec sub-t9 put-piece-requires put-limbs-requires same-length returns)
+    tie.close (tie.spec (λ c. search needs) put-piece-requires put-limbs-requires (λ c. search needs) returns)

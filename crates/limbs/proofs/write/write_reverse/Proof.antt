@@ -16,21 +16,6 @@ abbrev μ-loop : tie.MeasureT-loop
 loop-holds : tie.Need-loop-holds Inv-loop μ-loop
 loop-holds c = turn-none _ _ _ _ (omega arith)
 
-reverse-limb-requires : tie.Need-reverse-limb-requires Inv-loop μ-loop
-reverse-limb-requires c κs = omega arith
-
-mul-part : tie.Need-mul-part Inv-loop μ-loop
-mul-part c = omega arith
-
-slice-write-part : tie.Need-slice-write-part Inv-loop μ-loop
-slice-write-part c = omega arith
-
-add-j : tie.Need-add-j Inv-loop μ-loop
-add-j c = omega arith
-
-loop-less : tie.Need-loop-less Inv-loop μ-loop
-loop-less c = omega arith
-
 loop-again : tie.Need-loop-again Inv-loop μ-loop
 loop-again c = turn-more _ (c .before .before .loop .inv) (c .reverse-limb .ensures) (c .before .loop-test .taken) (omega arith)
 
@@ -47,11 +32,11 @@ write-reverse-spec =
     Inv-loop
     μ-loop
     loop-holds
-    reverse-limb-requires
-    mul-part
-    slice-write-part
-    add-j
-    loop-less
+    (λ c κs. omega arith)
+    (λ c. omega arith)
+    (λ c. omega arith)
+    (λ c. omega arith)
+    (λ c. omega arith)
     loop-again
     same-length
     returns)

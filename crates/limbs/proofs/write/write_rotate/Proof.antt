@@ -8,12 +8,6 @@ use borrow.Author.Needs.{needs}
 use Rattle.limbs.proofs.write.write_rotate.Statement.{statement}
 use Rattle.limbs.proofs.write.write_rotate.Tie as tie
 
-add-middle : tie.Need-add-middle
-add-middle c = search needs
-
-sub-t17 : tie.Need-sub-t17
-sub-t17 c = search needs
-
 put-piece-requires : tie.Need-put-piece-requires
 unfolding meaning Proper rotateBitField permuteField
 put-piece-requires c κs =
@@ -44,9 +38,6 @@ put-limbs-requires c κs =
     let p = c .before .before .before .before .before .before .before .before .before .before .before .before .before .before .before .before .before .before .before .pre in
     ((p .0, (p .0, p .0)), ((p .1 .0, p .1 .1 .0), omega arith))
 
-same-length : tie.Need-same-length
-same-length c = search needs
-
 returns : tie.Need-returns
 unfolding meaning
 returns c =
@@ -61,12 +52,12 @@ pub write-rotate-spec : {M : Type 1} → statement M
 write-rotate-spec =
     tie.close
     (tie.spec
-    add-middle
-    sub-t17
+    (λ c. search needs)
+    (λ c. search needs)
     put-piece-requires
     put-piece-requires-2
     put-piece-requires-3
     put-piece-requires-4
     put-limbs-requires
-    same-length
+    (λ c. search needs)
     returns)

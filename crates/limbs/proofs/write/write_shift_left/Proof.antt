@@ -7,12 +7,6 @@ use borrow.Author.Needs.{needs}
 use Rattle.limbs.proofs.write.write_shift_left.Statement.{statement}
 use Rattle.limbs.proofs.write.write_shift_left.Tie as tie
 
-first-past-requires : tie.Need-first-past-requires
-first-past-requires c κs = search needs
-
-put-zeros-requires : tie.Need-put-zeros-requires
-put-zeros-requires c κs = search needs
-
 put-piece-requires : tie.Need-put-piece-requires
 unfolding meaning Proper
 put-piece-requires c κs =
@@ -23,9 +17,6 @@ put-piece-requires c κs =
 put-limbs-requires : tie.Need-put-limbs-requires
 unfolding Proper
 put-limbs-requires c κs = omega arith
-
-same-length : tie.Need-same-length
-same-length c = search needs
 
 returns : tie.Need-returns
 unfolding meaning
@@ -39,9 +30,9 @@ pub write-shift-left-spec : {M : Type 1} → statement M
 write-shift-left-spec =
     tie.close
     (tie.spec
-    first-past-requires
-    put-zeros-requires
+    (λ c κs. search needs)
+    (λ c κs. search needs)
     put-piece-requires
     put-limbs-requires
-    same-length
+    (λ c. search needs)
     returns)

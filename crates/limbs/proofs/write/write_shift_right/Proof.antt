@@ -9,12 +9,6 @@ use borrow.Author.Needs.{needs}
 use Rattle.limbs.proofs.write.write_shift_right.Statement.{statement}
 use Rattle.limbs.proofs.write.write_shift_right.Tie as tie
 
-put-windows-requires : tie.Need-put-windows-requires
-put-windows-requires c κs = search needs
-
-same-length : tie.Need-same-length
-same-length c = search needs
-
 returns : tie.Need-returns
 returns c =
     let a = c .before .before .before .before .before .before in
@@ -23,4 +17,4 @@ returns c =
     (c .before .before .put-windows .ensures)
 
 pub write-shift-right-spec : {M : Type 1} → statement M
-write-shift-right-spec = tie.close (tie.spec put-windows-requires same-length returns)
+write-shift-right-spec = tie.close (tie.spec (λ c κs. search needs) (λ c. search needs) returns)

@@ -24,15 +24,6 @@ loop-holds : tie.Need-loop-holds Inv-loop μ-loop
 unfolding onesBelow
 loop-holds c = (refl, omega arith)
 
-mul-ones-of : tie.Need-mul-ones-of Inv-loop μ-loop
-mul-ones-of c = omega arith
-
-shared-slice-read-ones-of : tie.Need-shared-slice-read-ones-of Inv-loop μ-loop
-shared-slice-read-ones-of c = omega arith
-
-ones-of-requires : tie.Need-ones-of-requires Inv-loop μ-loop
-ones-of-requires c κs = search needs
-
 -- the ones of one limb more
 next : (c : tie.After-ones-of Inv-loop μ-loop) → let l = c .before .before .before .loop in
     l .n + c .ones-of .result ≡ onesOf (c .before .before .before .before .before .before .args .x .now) (l .j + 1)
@@ -44,12 +35,6 @@ add-n : tie.Need-add-n Inv-loop μ-loop
 add-n c =
     let l = c .before .before .before in
     omega (arith, next c, onesOf-le (l .before .before .before .args .x .now) (l .loop .j + 1))
-
-add-j : tie.Need-add-j Inv-loop μ-loop
-add-j c = omega arith
-
-loop-less : tie.Need-loop-less Inv-loop μ-loop
-loop-less c = omega arith
 
 loop-again : tie.Need-loop-again Inv-loop μ-loop
 loop-again c = (next c, omega arith)
@@ -75,12 +60,12 @@ bit-count-spec =
     μ-loop
     padding-requires
     loop-holds
-    mul-ones-of
-    shared-slice-read-ones-of
-    ones-of-requires
+    (λ c. omega arith)
+    (λ c. omega arith)
+    (λ c κs. search needs)
     add-n
-    add-j
-    loop-less
+    (λ c. omega arith)
+    (λ c. omega arith)
     loop-again
     from-magnitude-requires
     returns)

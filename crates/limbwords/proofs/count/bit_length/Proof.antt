@@ -24,24 +24,6 @@ padding-requires c κs = c .before .pre .0
 loop-holds : tie.Need-loop-holds Inv-loop μ-loop
 loop-holds c = (le-of-lt (value-length _ (c .before .before .pre .0)), omega arith)
 
-sub-top : tie.Need-sub-top Inv-loop μ-loop
-sub-top c = omega arith
-
-mul-top : tie.Need-mul-top Inv-loop μ-loop
-mul-top c = omega arith
-
-shared-slice-read-top : tie.Need-shared-slice-read-top Inv-loop μ-loop
-shared-slice-read-top c = omega arith
-
-sub-result : tie.Need-sub-result Inv-loop μ-loop
-sub-result c = omega arith
-
-mul-result : tie.Need-mul-result Inv-loop μ-loop
-mul-result c = omega arith
-
-length-of-requires : tie.Need-length-of-requires Inv-loop μ-loop
-length-of-requires c κs = search needs
-
 -- the highest limb that does not only continue the sign gives the length
 settled : (c : tie.After-length-of Inv-loop μ-loop) → let n = c .before .before .before .before .loop .n in
     32 * (n - 1) + c .length-of .result ≡ bitLength (value (c .before .before .before .before .before .before .before .args .x .now))
@@ -56,12 +38,6 @@ add-result c =
 
 returns : tie.Need-returns Inv-loop μ-loop
 returns c = settled c
-
-sub-n : tie.Need-sub-n Inv-loop μ-loop
-sub-n c = omega arith
-
-loop-less : tie.Need-loop-less Inv-loop μ-loop
-loop-less c = omega arith
 
 loop-again : tie.Need-loop-again Inv-loop μ-loop
 loop-again c =
@@ -79,15 +55,15 @@ bit-length-spec =
     μ-loop
     padding-requires
     loop-holds
-    sub-top
-    mul-top
-    shared-slice-read-top
-    sub-result
-    mul-result
-    length-of-requires
+    (λ c. omega arith)
+    (λ c. omega arith)
+    (λ c. omega arith)
+    (λ c. omega arith)
+    (λ c. omega arith)
+    (λ c κs. search needs)
     add-result
     returns
-    sub-n
-    loop-less
+    (λ c. omega arith)
+    (λ c. omega arith)
     loop-again
     returns-2)

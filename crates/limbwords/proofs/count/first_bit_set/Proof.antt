@@ -29,43 +29,16 @@ limbs-holds c = (λ i h. absurd (omega arith), omega arith)
 loop-holds : tie.Need-loop-holds Inv-loop μ-loop Inv-limbs μ-limbs
 loop-holds c = (λ i h. c .before .limbs .inv .0 i (omega arith), omega arith)
 
-mul-if2 : tie.Need-mul-if2 Inv-loop μ-loop Inv-limbs μ-limbs
-mul-if2 c = omega arith
-
-shared-slice-read-if2 : tie.Need-shared-slice-read-if2 Inv-loop μ-loop Inv-limbs μ-limbs
-shared-slice-read-if2 c = omega arith
-
 cast-if2 : tie.Need-cast-if2 Inv-loop μ-loop Inv-limbs μ-limbs
 cast-if2 c = record { fits = omega arith }
 
-shr-if2 : tie.Need-shr-if2 Inv-loop μ-loop Inv-limbs μ-limbs
-shr-if2 c = omega arith
-
-mul-result : tie.Need-mul-result Inv-loop μ-loop Inv-limbs μ-limbs
-mul-result c = omega arith
-
-add-result : tie.Need-add-result Inv-loop μ-loop Inv-limbs μ-limbs
-add-result c = omega arith
-
 cast-result : tie.Need-cast-result Inv-loop μ-loop Inv-limbs μ-limbs
 cast-result c = record { sfits = omega arith }
-
-add-i : tie.Need-add-i Inv-loop μ-loop Inv-limbs μ-limbs
-add-i c = omega arith
-
-loop-less : tie.Need-loop-less Inv-loop μ-loop Inv-limbs μ-limbs
-loop-less c = omega arith
 
 loop-again : tie.Need-loop-again Inv-loop μ-loop Inv-limbs μ-limbs
 loop-again c =
     let l = c .before .before .before in
     (none-here _ _ _ (omega arith) (omega arith) (l .loop .inv .0) (c .if2 .left), omega arith)
-
-add-j : tie.Need-add-j Inv-loop μ-loop Inv-limbs μ-limbs
-add-j c = omega arith
-
-limbs-less : tie.Need-limbs-less Inv-loop μ-loop Inv-limbs μ-limbs
-limbs-less c = omega arith
 
 limbs-again : tie.Need-limbs-again Inv-loop μ-loop Inv-limbs μ-limbs
 limbs-again c = (λ i h. c .before .loop .inv .0 i (omega arith), omega arith)
@@ -91,18 +64,18 @@ first-bit-set-spec =
     μ-limbs
     limbs-holds
     loop-holds
-    mul-if2
-    shared-slice-read-if2
+    (λ c. omega arith)
+    (λ c. omega arith)
     cast-if2
-    shr-if2
-    mul-result
-    add-result
+    (λ c. omega arith)
+    (λ c. omega arith)
+    (λ c. omega arith)
     cast-result
-    add-i
-    loop-less
+    (λ c. omega arith)
+    (λ c. omega arith)
     loop-again
-    add-j
-    limbs-less
+    (λ c. omega arith)
+    (λ c. omega arith)
     limbs-again
     returns
     returns-2)

@@ -2,7 +2,7 @@
 use native.Mathlib.Omega.{arith}
 use lib.Count.{leading-le}
 use lib.IntN.{pos}
-use Rattle.bits.proofs.CountWords.{leading-bitLength}
+use Rattle.words.proofs.CountWords.{leading-bitLength}
 use Rattle.limbwords.proofs.count.length_of.Statement.{statement}
 use Rattle.limbwords.proofs.count.length_of.Tie as tie
 

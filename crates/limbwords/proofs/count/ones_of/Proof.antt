@@ -3,7 +3,7 @@ use Prim.Native.Nat.{_+_, _≤_}
 use native.Mathlib.Omega.{arith}
 use mathlib.Core.Path.{_≡_, _∙_}
 use lib.Count.{ones, ones-step, ones-le}
-use Rattle.bits.proofs.CountWords.{count-ones}
+use Rattle.words.proofs.CountWords.{count-ones}
 use Rattle.limbwords.proofs.count.ones_of.Statement.{statement}
 use Rattle.limbwords.proofs.count.ones_of.Tie as tie
 
@@ -13,17 +13,11 @@ Inv-loop w rest₀ n₀ rest n = n + ones rest ≡ ones w
 abbrev μ-loop : tie.MeasureT-loop
 μ-loop w rest₀ n₀ rest n = rest
 
-loop-holds : tie.Need-loop-holds Inv-loop μ-loop
-loop-holds c = omega arith
-
 cast-n : tie.Need-cast-n Inv-loop μ-loop
 cast-n c = record { fits = omega arith }
 
 add-n : tie.Need-add-n Inv-loop μ-loop
 add-n c = omega (arith, c .before .loop .inv, ones-le 32 (c .before .before .args .w) (c .before .before .fits .w .fits))
-
-loop-less : tie.Need-loop-less Inv-loop μ-loop
-loop-less c = omega arith
 
 loop-again : tie.Need-loop-again Inv-loop μ-loop
 loop-again c = omega (arith, c .before .loop .inv, ones-step (c .before .loop .rest))
@@ -36,4 +30,4 @@ returns c =
 
 pub ones-of-spec : {M : Type 1} → statement M
 ones-of-spec =
-    tie.close (tie.spec Inv-loop μ-loop loop-holds cast-n add-n loop-less loop-again returns)
+    tie.close (tie.spec Inv-loop μ-loop (λ c. omega arith) cast-n add-n (λ c. omega arith) loop-again returns)

@@ -4,18 +4,6 @@ use Rattle.limbwords.proofs.FieldLimbs.{copyBitField-limb}
 use Rattle.limbwords.proofs.field.copy_field_limb.Statement.{statement}
 use Rattle.limbwords.proofs.field.copy_field_limb.Tie as tie
 
-mul-window-below : tie.Need-mul-window-below
-mul-window-below c = search needs
-
-window-below-requires : tie.Need-window-below-requires
-window-below-requires c κs = search needs
-
-limb-requires : tie.Need-limb-requires
-limb-requires c κs = search needs
-
-lay-requires : tie.Need-lay-requires
-lay-requires c κs = search needs
-
 returns : tie.Need-returns
 returns c =
     copyBitField-limb _
@@ -24,4 +12,4 @@ returns c =
 
 pub copy-field-limb-spec : {M : Type 1} → statement M
 copy-field-limb-spec =
-    tie.close (tie.spec mul-window-below window-below-requires limb-requires lay-requires returns)
+    tie.close (tie.spec (λ c. search needs) (λ c κs. search needs) (λ c κs. search needs) (λ c κs. search needs) returns)

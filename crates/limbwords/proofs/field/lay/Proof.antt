@@ -10,12 +10,6 @@ use Rattle.limbwords.proofs.FieldLimbs.{choose-field}
 use Rattle.limbwords.proofs.field.lay.Statement.{statement}
 use Rattle.limbwords.proofs.field.lay.Tie as tie
 
-splice-at-requires : tie.Need-splice-at-requires
-splice-at-requires c κs = search needs
-
-splice-at-requires-2 : tie.Need-splice-at-requires-2
-splice-at-requires-2 c κs = search needs
-
 returns : tie.Need-returns
 returns c t h =
     let a = c .before .before .args in
@@ -25,4 +19,4 @@ returns c t h =
     ∙ choose-field (a .start) (a .end) i (testbit (pos (a .inside)) t) (testbit (pos (a .outside)) t)
 
 pub lay-spec : {M : Type 1} → statement M
-lay-spec = tie.close (tie.spec splice-at-requires splice-at-requires-2 returns)
+lay-spec = tie.close (tie.spec (λ c κs. search needs) (λ c κs. search needs) returns)

@@ -10,15 +10,6 @@ use borrow.Author.Needs.{needs}
 use Rattle.limbwords.proofs.limb.limb.Statement.{statement}
 use Rattle.limbwords.proofs.limb.limb.Tie as tie
 
-mul-result : tie.Need-mul-result
-mul-result c = search needs
-
-shared-slice-read-result : tie.Need-shared-slice-read-result
-shared-slice-read-result c = search needs
-
-padding-requires : tie.Need-padding-requires
-padding-requires c κs = search needs
-
 returns : tie.Need-returns
 returns c = limb-value _ _ (λ i. c .shared-slice-known2 .given i .fits) (c .before .if1 .taken)
 
@@ -33,4 +24,4 @@ returns-2 c =
 
 pub limb-spec : {M : Type 1} → statement M
 limb-spec =
-    tie.close (tie.spec mul-result shared-slice-read-result padding-requires returns returns-2)
+    tie.close (tie.spec (λ c. search needs) (λ c. search needs) (λ c κs. search needs) returns returns-2)

@@ -14,15 +14,6 @@ use borrow.Author.Needs.{needs}
 use Rattle.limbwords.proofs.limb.padding.Statement.{statement}
 use Rattle.limbwords.proofs.limb.padding.Tie as tie
 
-sub-if1 : tie.Need-sub-if1
-sub-if1 c = search needs
-
-mul-if1 : tie.Need-mul-if1
-mul-if1 c = search needs
-
-shared-slice-read-if1 : tie.Need-shared-slice-read-if1
-shared-slice-read-if1 c = search needs
-
 -- by the top bit of the last limb
 padded : (xs : List ℕ) → ((i : ℕ) → getD xs i 0 < 2 ^ 32) → 0 < length xs → (b : Bool) → ltb (getD xs (length xs - 1) 0) 0x80000000 ≡ b
     → cond (not b) 0xFFFFFFFF 0 ≡ bitsFrom (value xs) (32 * length xs)
@@ -37,4 +28,4 @@ returns-2 : tie.Need-returns-2
 returns-2 c = padded _ (λ i. c .before .shared-slice-known .given i .fits) (c .before .before .pre) _ (le-ltb _ _ (c .if1 .left))
 
 pub padding-spec : {M : Type 1} → statement M
-padding-spec = tie.close (tie.spec sub-if1 mul-if1 shared-slice-read-if1 returns returns-2)
+padding-spec = tie.close (tie.spec (λ c. search needs) (λ c. search needs) (λ c. search needs) returns returns-2)

@@ -10,18 +10,6 @@ use borrow.Author.Needs.{needs}
 use Rattle.limbwords.proofs.limb.window.Statement.{statement}
 use Rattle.limbwords.proofs.limb.window.Tie as tie
 
-limb-requires : tie.Need-limb-requires
-limb-requires c κs = search needs
-
-add-limb : tie.Need-add-limb
-add-limb c = search needs
-
-limb-requires-2 : tie.Need-limb-requires-2
-limb-requires-2 c κs = search needs
-
-join-requires : tie.Need-join-requires
-join-requires c κs = search needs
-
 returns : tie.Need-returns
 returns c =
     let a = c .before .before .before .before in
@@ -35,4 +23,4 @@ returns c =
     ∙ ap (bitsFrom z) at
 
 pub window-spec : {M : Type 1} → statement M
-window-spec = tie.close (tie.spec limb-requires add-limb limb-requires-2 join-requires returns)
+window-spec = tie.close (tie.spec (λ c κs. search needs) (λ c. search needs) (λ c κs. search needs) (λ c κs. search needs) returns)

@@ -8,33 +8,15 @@ use borrow.Author.Needs.{needs}
 use Rattle.limbwords.proofs.limb.window_below.Statement.{statement}
 use Rattle.limbwords.proofs.limb.window_below.Tie as tie
 
-window-requires : tie.Need-window-requires
-window-requires c κs = search needs
-
 returns : tie.Need-returns
 returns c =
     let a = c .before .before .before .args in
     c .window .ensures ∙ bitsFrom-shiftLeft-ge (value (a .x .now)) (a .by) (a .at) (c .before .if1 .taken)
 
-sub-if2 : tie.Need-sub-if2
-sub-if2 c = search needs
-
 returns-2 : tie.Need-returns-2
 returns-2 c =
     let a = c .before .before .before .args in
     bitsFrom-shiftLeft-zero (value (a .x .now)) (a .by) (a .at) (omega (arith, c .if2 .taken))
-
-limb-requires : tie.Need-limb-requires
-limb-requires c κs = search needs
-
-sub-join : tie.Need-sub-join
-sub-join c = search needs
-
-sub-join-2 : tie.Need-sub-join-2
-sub-join-2 c = search needs
-
-join-requires : tie.Need-join-requires
-join-requires c κs = search needs
 
 returns-3 : tie.Need-returns-3
 returns-3 c =
@@ -48,12 +30,12 @@ pub window-below-spec : {M : Type 1} → statement M
 window-below-spec =
     tie.close
     (tie.spec
-    window-requires
+    (λ c κs. search needs)
     returns
-    sub-if2
+    (λ c. search needs)
     returns-2
-    limb-requires
-    sub-join
-    sub-join-2
-    join-requires
+    (λ c κs. search needs)
+    (λ c. search needs)
+    (λ c. search needs)
+    (λ c κs. search needs)
     returns-3)

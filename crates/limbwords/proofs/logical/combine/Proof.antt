@@ -1,25 +1,13 @@
 -- `limbwords::logical::combine` meets its contract. Assumes nothing.
 use mathlib.Core.Path.{_≡_, sym, ap, _∙_}
 use mathlib.Core.Bool.{Bool}
-use Rattle.bits.proofs.Digitwise.{testbit-digitwise, and-digitwise, ior-digitwise, xor-digitwise}
+use Rattle.words.proofs.Digitwise.{testbit-digitwise, and-digitwise, ior-digitwise, xor-digitwise}
 use Rattle.limbwords.proofs.LogicalLaws.{not-bits}
 use Rattle.limbwords.specs.declared.result.Logic.{Logic}
 use Rattle.limbwords.specs.Results.{logicOf}
 use borrow.Author.Needs.{needs}
 use Rattle.limbwords.proofs.logical.combine.Statement.{statement}
 use Rattle.limbwords.proofs.logical.combine.Tie as tie
-
-enum-told : tie.Need-enum-told
-enum-told c = search needs
-
-enum-told-2 : tie.Need-enum-told-2
-enum-told-2 c = search needs
-
-enum-told-3 : tie.Need-enum-told-3
-enum-told-3 c = search needs
-
-enum-told-4 : tie.Need-enum-told-4
-enum-told-4 c = search needs
 
 -- the operation that an arm of the match stands for
 arm : (p q : Bool) {k l : Logic} → k ≡ l → logicOf l p q ≡ logicOf k p q
@@ -42,4 +30,4 @@ unfolding logicOf
 returns-4 c t k = not-bits _ (c .before .before .fits .a .fits) t k ∙ arm _ _ (c .enum-told4 .given .1)
 
 pub combine-spec : {M : Type 1} → statement M
-combine-spec = tie.close (tie.spec enum-told enum-told-2 enum-told-3 enum-told-4 returns returns-2 returns-3 returns-4)
+combine-spec = tie.close (tie.spec (λ c. search needs) (λ c. search needs) (λ c. search needs) (λ c. search needs) returns returns-2 returns-3 returns-4)

@@ -5,21 +5,6 @@ use borrow.Author.Needs.{needs}
 use Rattle.limbwords.proofs.logical.common_limb.Statement.{statement}
 use Rattle.limbwords.proofs.logical.common_limb.Tie as tie
 
-mul-combine : tie.Need-mul-combine
-mul-combine c = search needs
-
-shared-slice-read-combine : tie.Need-shared-slice-read-combine
-shared-slice-read-combine c = search needs
-
-mul-combine-2 : tie.Need-mul-combine-2
-mul-combine-2 c = search needs
-
-shared-slice-read-combine-2 : tie.Need-shared-slice-read-combine-2
-shared-slice-read-combine-2 c = search needs
-
-combine-requires : tie.Need-combine-requires
-combine-requires c κs = search needs
-
 returns : tie.Need-returns
 returns c =
     let a = c .before .before .before .before .before in
@@ -30,9 +15,9 @@ pub common-limb-spec : {M : Type 1} → statement M
 common-limb-spec =
     tie.close
     (tie.spec
-    mul-combine
-    shared-slice-read-combine
-    mul-combine-2
-    shared-slice-read-combine-2
-    combine-requires
+    (λ c. search needs)
+    (λ c. search needs)
+    (λ c. search needs)
+    (λ c. search needs)
+    (λ c κs. search needs)
     returns)

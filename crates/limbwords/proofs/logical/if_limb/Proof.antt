@@ -7,18 +7,6 @@ use borrow.Author.Needs.{needs}
 use Rattle.limbwords.proofs.logical.if_limb.Statement.{statement}
 use Rattle.limbwords.proofs.logical.if_limb.Tie as tie
 
-limb-requires : tie.Need-limb-requires
-limb-requires c κs = search needs
-
-limb-requires-2 : tie.Need-limb-requires-2
-limb-requires-2 c κs = search needs
-
-limb-requires-3 : tie.Need-limb-requires-3
-limb-requires-3 c κs = search needs
-
-choose-requires : tie.Need-choose-requires
-choose-requires c κs = search needs
-
 returns : tie.Need-returns
 returns c =
     let a = c .before .before .before .before .before .before .before in
@@ -27,4 +15,4 @@ returns c =
     (c .before .before .limb2 .ensures) (c .before .limb3 .ensures)
 
 pub if-limb-spec : {M : Type 1} → statement M
-if-limb-spec = tie.close (tie.spec limb-requires limb-requires-2 limb-requires-3 choose-requires returns)
+if-limb-spec = tie.close (tie.spec (λ c κs. search needs) (λ c κs. search needs) (λ c κs. search needs) (λ c κs. search needs) returns)

@@ -10,15 +10,6 @@ use borrow.Author.Needs.{needs}
 use Rattle.limbwords.proofs.logical.logical_limb.Statement.{statement}
 use Rattle.limbwords.proofs.logical.logical_limb.Tie as tie
 
-limb-requires : tie.Need-limb-requires
-limb-requires c κs = search needs
-
-limb-requires-2 : tie.Need-limb-requires-2
-limb-requires-2 c κs = search needs
-
-combine-requires : tie.Need-combine-requires
-combine-requires c κs = search needs
-
 returns : tie.Need-returns
 returns c =
     let a = c .before .before .before .before .before in
@@ -27,4 +18,4 @@ returns c =
     ∙ ap₂ (λ (m n : ℕ). logicOf (a .args .by) (testbit (pos m) t) (testbit (pos n) t)) (c .before .before .limb .ensures) (c .before .limb2 .ensures))
 
 pub logical-limb-spec : {M : Type 1} → statement M
-logical-limb-spec = tie.close (tie.spec limb-requires limb-requires-2 combine-requires returns)
+logical-limb-spec = tie.close (tie.spec (λ c κs. search needs) (λ c κs. search needs) (λ c κs. search needs) returns)

@@ -9,29 +9,11 @@ use borrow.Author.Needs.{needs}
 use Rattle.limbwords.proofs.measure.limb_of.Statement.{statement}
 use Rattle.limbwords.proofs.measure.limb_of.Tie as tie
 
-enum-known-operation : tie.Need-enum-known-operation
-enum-known-operation c = search needs
-
-logical-limb-requires : tie.Need-logical-limb-requires
-logical-limb-requires c κs = search needs
-
-enum-told : tie.Need-enum-told
-enum-told c = search needs
-
-if-limb-requires : tie.Need-if-limb-requires
-if-limb-requires c κs = search needs
-
-enum-known-operation-2 : tie.Need-enum-known-operation-2
-enum-known-operation-2 c = search needs
-
 shift-left-limb-requires : tie.Need-shift-left-limb-requires
 unfolding Proper
 shift-left-limb-requires c κs =
     let a = c .before .before .before .before .before .before in
     (a .pre .0, (subst Proper (c .before .operation2 .given .1) (a .pre .1 .1 .1 .0), a .pre .1 .1 .1 .1))
-
-enum-known-operation-3 : tie.Need-enum-known-operation-3
-enum-known-operation-3 c = search needs
 
 shift-right-limb-requires : tie.Need-shift-right-limb-requires
 unfolding Proper
@@ -39,17 +21,11 @@ shift-right-limb-requires c κs =
     let a = c .before .before .before .before .before .before in
     (a .pre .0, (subst Proper (c .before .operation3 .given .1) (a .pre .1 .1 .1 .0), a .pre .1 .1 .1 .1))
 
-enum-known-operation-4 : tie.Need-enum-known-operation-4
-enum-known-operation-4 c = search needs
-
 field-limb-requires : tie.Need-field-limb-requires
 unfolding Proper
 field-limb-requires c κs =
     let a = c .before .before .before .before .before .before in
     (a .pre .0, (subst Proper (c .before .operation4 .given .1) (a .pre .1 .1 .1 .0), a .pre .1 .1 .1 .1))
-
-enum-known-operation-5 : tie.Need-enum-known-operation-5
-enum-known-operation-5 c = search needs
 
 copy-field-limb-requires : tie.Need-copy-field-limb-requires
 unfolding Proper
@@ -57,18 +33,12 @@ copy-field-limb-requires c κs =
     let a = c .before .before .before .before .before .before in
     ((a .pre .0, a .pre .1 .0), (subst Proper (c .before .operation5 .given .1) (a .pre .1 .1 .1 .0), a .pre .1 .1 .1 .1))
 
-enum-known-operation-6 : tie.Need-enum-known-operation-6
-enum-known-operation-6 c = search needs
-
 rotate-limb-requires : tie.Need-rotate-limb-requires
 unfolding Proper
 rotate-limb-requires c κs =
     let a = c .before .before .before .before .before .before in
     let p = subst Proper (c .before .operation6 .given .1) (a .pre .1 .1 .1 .0) in
     (a .pre .0, (p .0, (p .1, a .pre .1 .1 .1 .1)))
-
-enum-known-operation-7 : tie.Need-enum-known-operation-7
-enum-known-operation-7 c = search needs
 
 reverse-limb-requires : tie.Need-reverse-limb-requires
 unfolding Proper
@@ -116,21 +86,21 @@ pub limb-of-spec : {M : Type 1} → statement M
 limb-of-spec =
     tie.close
     (tie.spec
-    enum-known-operation
-    logical-limb-requires
-    enum-told
-    if-limb-requires
-    enum-known-operation-2
+    (λ c. search needs)
+    (λ c κs. search needs)
+    (λ c. search needs)
+    (λ c κs. search needs)
+    (λ c. search needs)
     shift-left-limb-requires
-    enum-known-operation-3
+    (λ c. search needs)
     shift-right-limb-requires
-    enum-known-operation-4
+    (λ c. search needs)
     field-limb-requires
-    enum-known-operation-5
+    (λ c. search needs)
     copy-field-limb-requires
-    enum-known-operation-6
+    (λ c. search needs)
     rotate-limb-requires
-    enum-known-operation-7
+    (λ c. search needs)
     reverse-limb-requires
     returns
     returns-2

@@ -16,9 +16,6 @@ returns c =
     let a = c .before .before .before .before in
     sym (c .if1 .taken) ∙ counted-one _ (a .args .enough) (c .if1 .taken) (a .pre .1 .1 .1 .1)
 
-enum-known-operation : tie.Need-enum-known-operation
-enum-known-operation c = search needs
-
 -- the operation that an arm of the match stands for
 arm : (P : ℤ → Type 0) (x y z : ℤ) {o p : Operation} → o ≡ p → P (meaning o x y z) → P (meaning p x y z)
 arm P x y z = subst (λ (o : Operation). P (meaning o x y z))
@@ -30,9 +27,6 @@ measure-logical-requires c κs =
     let p = a .pre .1 .1 .1 in
     (a .pre .0, (a .pre .1 .0, (p .0 .1 .0, arm (λ w. bitLength w < 32 * a .args .enough) _ _ _ (c .before .operation .given .1) (p .1))))
 
-measure-any-requires : tie.Need-measure-any-requires
-measure-any-requires c κs = search needs
-
 returns-2 : tie.Need-returns-2
 unfolding meaning
 returns-2 c = arm (λ w. c .measure-logical .result ≡ limbCount w) _ _ _ (sym (c .before .before .operation .given .1)) (c .measure-logical .ensures)
@@ -41,4 +35,4 @@ returns-3 : tie.Need-returns-3
 returns-3 c = search needs
 
 pub measure-spec : {M : Type 1} → statement M
-measure-spec = tie.close (tie.spec returns enum-known-operation measure-logical-requires measure-any-requires returns-2 returns-3)
+measure-spec = tie.close (tie.spec returns (λ c. search needs) measure-logical-requires (λ c κs. search needs) returns-2 returns-3)

@@ -27,27 +27,15 @@ loop-holds c =
     let p = c .before .before .before .before .pre .1 .1 .1 in
     (record { some = p .0 .1 .0; size = p .1; last = c .limb-of .ensures }, p .0 .1 .1)
 
-sub-limb-of-2 : tie.Need-sub-limb-of-2 Inv-loop μ-loop
-sub-limb-of-2 c = omega arith
-
 limb-of-requires-2 : tie.Need-limb-of-requires-2 Inv-loop μ-loop
 limb-of-requires-2 c κs =
     let p = c .before .before .before .before .before .before .pre in
     (p .0, (p .1 .0, (p .1 .1 .0, (p .1 .1 .1 .0 .0, omega arith))))
 
-is-padding-requires : tie.Need-is-padding-requires Inv-loop μ-loop
-is-padding-requires c κs = search needs
-
 returns : tie.Need-returns Inv-loop μ-loop
 returns c =
     let t = c .before .before .before in
     counted (t .before .loop .inv .0) (t .loop-test .taken) (c .before .before .limb-of2 .ensures) (c .before .is-padding .ensures) (c .if1 .taken)
-
-sub-n : tie.Need-sub-n Inv-loop μ-loop
-sub-n c = omega arith
-
-loop-less : tie.Need-loop-less Inv-loop μ-loop
-loop-less c = omega arith
 
 loop-again : tie.Need-loop-again Inv-loop μ-loop
 loop-again c =
@@ -66,11 +54,11 @@ measure-any-spec =
     sub-limb-of
     limb-of-requires
     loop-holds
-    sub-limb-of-2
+    (λ c. omega arith)
     limb-of-requires-2
-    is-padding-requires
+    (λ c κs. search needs)
     returns
-    sub-n
-    loop-less
+    (λ c. omega arith)
+    (λ c. omega arith)
     loop-again
     returns-2)

@@ -18,33 +18,15 @@ abbrev μ-loop : tie.MeasureT-loop
 sub-common-limb : tie.Need-sub-common-limb Inv-loop μ-loop
 sub-common-limb c = c .before .before .pre .1 .0
 
-common-limb-requires : tie.Need-common-limb-requires Inv-loop μ-loop
-common-limb-requires c κs = search needs
-
 loop-holds : tie.Need-loop-holds Inv-loop μ-loop
 loop-holds c =
     let p = c .before .before .before .pre .1 in
     (record { some = p .0; size = p .1; last = c .common-limb .ensures }, omega arith)
 
-sub-common-limb-2 : tie.Need-sub-common-limb-2 Inv-loop μ-loop
-sub-common-limb-2 c = omega arith
-
-common-limb-requires-2 : tie.Need-common-limb-requires-2 Inv-loop μ-loop
-common-limb-requires-2 c κs = search needs
-
-is-padding-requires : tie.Need-is-padding-requires Inv-loop μ-loop
-is-padding-requires c κs = search needs
-
 returns : tie.Need-returns Inv-loop μ-loop
 returns c =
     let t = c .before .before .before in
     counted (t .before .loop .inv .0) (t .loop-test .taken) (c .before .before .common-limb2 .ensures) (c .before .is-padding .ensures) (c .if1 .taken)
-
-sub-n : tie.Need-sub-n Inv-loop μ-loop
-sub-n c = omega arith
-
-loop-less : tie.Need-loop-less Inv-loop μ-loop
-loop-less c = omega arith
 
 loop-again : tie.Need-loop-again Inv-loop μ-loop
 loop-again c =
@@ -61,13 +43,13 @@ measure-common-spec =
     Inv-loop
     μ-loop
     sub-common-limb
-    common-limb-requires
+    (λ c κs. search needs)
     loop-holds
-    sub-common-limb-2
-    common-limb-requires-2
-    is-padding-requires
+    (λ c. omega arith)
+    (λ c κs. search needs)
+    (λ c κs. search needs)
     returns
-    sub-n
-    loop-less
+    (λ c. omega arith)
+    (λ c. omega arith)
     loop-again
     returns-2)

@@ -17,33 +17,15 @@ abbrev μ-loop : tie.MeasureT-loop
 sub-logical-limb : tie.Need-sub-logical-limb Inv-loop μ-loop
 sub-logical-limb c = c .before .before .pre .1 .1 .0
 
-logical-limb-requires : tie.Need-logical-limb-requires Inv-loop μ-loop
-logical-limb-requires c κs = search needs
-
 loop-holds : tie.Need-loop-holds Inv-loop μ-loop
 loop-holds c =
     let p = c .before .before .before .pre .1 .1 in
     record { some = p .0; size = p .1; last = c .logical-limb .ensures }
 
-sub-logical-limb-2 : tie.Need-sub-logical-limb-2 Inv-loop μ-loop
-sub-logical-limb-2 c = omega arith
-
-logical-limb-requires-2 : tie.Need-logical-limb-requires-2 Inv-loop μ-loop
-logical-limb-requires-2 c κs = search needs
-
-is-padding-requires : tie.Need-is-padding-requires Inv-loop μ-loop
-is-padding-requires c κs = search needs
-
 returns : tie.Need-returns Inv-loop μ-loop
 returns c =
     let t = c .before .before .before in
     counted (t .before .loop .inv) (t .loop-test .taken) (c .before .before .logical-limb2 .ensures) (c .before .is-padding .ensures) (c .if1 .taken)
-
-sub-n : tie.Need-sub-n Inv-loop μ-loop
-sub-n c = omega arith
-
-loop-less : tie.Need-loop-less Inv-loop μ-loop
-loop-less c = omega arith
 
 loop-again : tie.Need-loop-again Inv-loop μ-loop
 loop-again c =
@@ -60,13 +42,13 @@ measure-padded-spec =
     Inv-loop
     μ-loop
     sub-logical-limb
-    logical-limb-requires
+    (λ c κs. search needs)
     loop-holds
-    sub-logical-limb-2
-    logical-limb-requires-2
-    is-padding-requires
+    (λ c. omega arith)
+    (λ c κs. search needs)
+    (λ c κs. search needs)
     returns
-    sub-n
-    loop-less
+    (λ c. omega arith)
+    (λ c. omega arith)
     loop-again
     returns-2)

@@ -7,15 +7,9 @@ use borrow.Author.Needs.{needs}
 use Rattle.limbwords.proofs.signed.bits_from.Statement.{statement}
 use Rattle.limbwords.proofs.signed.bits_from.Tie as tie
 
-shr-result : tie.Need-shr-result
-shr-result c = search needs
-
-cast-result : tie.Need-cast-result
-cast-result c = search needs
-
 returns : tie.Need-returns
 unfolding bitsFrom shiftRight floorDiv modℕ
 returns c = refl
 
 pub bits-from-spec : {M : Type 1} → statement M
-bits-from-spec = tie.close (tie.spec shr-result cast-result returns)
+bits-from-spec = tie.close (tie.spec (λ c. search needs) (λ c. search needs) returns)

@@ -1,8 +1,8 @@
 -- `limbwords::signed::complement` meets its contract. Assumes nothing.
 use mathlib.Core.Path.{sym, ap, _∙_}
 use lib.IntN.{ℤ, negsuc, natAbs}
-use Rattle.bits.proofs.WordLaws.{not-word, cast-word}
-use Rattle.bits.proofs.WordLaws.{complement-mag}
+use Rattle.words.proofs.WordLaws.{not-word, cast-word}
+use Rattle.words.proofs.WordLaws.{complement-mag}
 use Rattle.limbwords.proofs.signed.complement.Statement.{statement}
 use Rattle.limbwords.proofs.signed.complement.Tie as tie
 

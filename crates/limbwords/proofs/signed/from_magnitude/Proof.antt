@@ -7,15 +7,9 @@ use mir.Syntax.{w64}
 use mir.Val.{toZ}
 use mir.ValLaws.{toZ-pos, toZ-neg}
 use borrow.Author.Needs.{needs}
-use Rattle.bits.specs.Sign.{ofMagnitude}
+use Rattle.words.specs.Sign.{ofMagnitude}
 use Rattle.limbwords.proofs.signed.from_magnitude.Statement.{statement}
 use Rattle.limbwords.proofs.signed.from_magnitude.Tie as tie
-
-cast-result : tie.Need-cast-result
-cast-result c = search needs
-
-cast-result-2 : tie.Need-cast-result-2
-cast-result-2 c = search needs
 
 returns : tie.Need-returns
 unfolding ofMagnitude
@@ -32,4 +26,4 @@ returns-2 c =
     toZ-pos w64 m (c .before .pre) ∙ sym (ap (λ (b : Bool). ofMagnitude b m) (c .if1 .left))
 
 pub from-magnitude-spec : {M : Type 1} → statement M
-from-magnitude-spec = tie.close (tie.spec cast-result cast-result-2 returns returns-2)
+from-magnitude-spec = tie.close (tie.spec (λ c. search needs) (λ c. search needs) returns returns-2)

@@ -1,7 +1,7 @@
 -- `limbwords::signed::natural` meets its contract. Assumes nothing.
 use mathlib.Core.Path.{_∙_, ap}
 use lib.IntN.{natAbs}
-use Rattle.bits.proofs.WordLaws.{back, natural-mag, cast-word}
+use Rattle.words.proofs.WordLaws.{back, natural-mag, cast-word}
 use Rattle.limbwords.proofs.signed.natural.Statement.{statement}
 use Rattle.limbwords.proofs.signed.natural.Tie as tie
 

@@ -7,25 +7,16 @@ use lib.Signed.{mag}
 use mir.Syntax.{w64}
 use mir.ValLaws.{toZ-ofZ}
 use borrow.Author.Needs.{needs}
-use Rattle.bits.specs.Sign.{ofMagnitude}
+use Rattle.words.specs.Sign.{ofMagnitude}
 use Rattle.bits.proofs.LengthLaws.{mag-lt}
-use Rattle.bits.proofs.MagnitudeLaws.{ofMagnitude-mag}
+use Rattle.words.proofs.MagnitudeLaws.{ofMagnitude-mag}
 use Rattle.limbwords.specs.Value.{value}
 use Rattle.limbwords.proofs.CountLimbs.{operand-sign, two-limbs}
 use Rattle.limbwords.proofs.signed.word.Statement.{statement}
 use Rattle.limbwords.proofs.signed.word.Tie as tie
 
-padding-requires : tie.Need-padding-requires
-padding-requires c κs = search needs
-
-limb-requires : tie.Need-limb-requires
-limb-requires c κs = search needs
-
 cast-low : tie.Need-cast-low
 cast-low c = record { fits = omega (arith, xor-lt 32 (c .limb .result) (c .before .padding .result) (c .limb .ok) (c .before .padding .ok)) }
-
-limb-requires-2 : tie.Need-limb-requires-2
-limb-requires-2 c κs = search needs
 
 cast-high : tie.Need-cast-high
 cast-high c = record { fits = omega (arith, xor-lt 32 (c .limb2 .result) (c .before .before .padding .result) (c .limb2 .ok) (c .before .before .padding .ok)) }
@@ -61,10 +52,10 @@ pub word-spec : {M : Type 1} → statement M
 word-spec =
     tie.close
     (tie.spec
-    padding-requires
-    limb-requires
+    (λ c κs. search needs)
+    (λ c κs. search needs)
     cast-low
-    limb-requires-2
+    (λ c κs. search needs)
     cast-high
     mul-from-magnitude
     add-from-magnitude

@@ -6,11 +6,11 @@ use lib.IntN.{ℤ, pos, natAbs}
 use mir.Syntax.{w64}
 use mir.Val.{toZ, ofZ}
 use Rattle.bits.specs.Logical.{bitwiseNot}
-use Rattle.bits.proofs.WordLaws.{back}
+use Rattle.words.proofs.WordLaws.{back}
 use Rattle.limbwords.specs.Value.{bitsFrom}
 use Rattle.limbwords.proofs.LogicalLaws.{bitsFrom-not}
-use Rattle.bits.proofs.WordLaws.{position-tested}
-use Rattle.bits.proofs.WordLaws.{natural-pos}
+use Rattle.words.proofs.WordLaws.{position-tested}
+use Rattle.words.proofs.WordLaws.{natural-pos}
 use borrow.Author.Needs.{needs}
 use Rattle.limbwords.proofs.signed.word_bits.Statement.{statement}
 use Rattle.limbwords.proofs.signed.word_bits.Tie as tie
@@ -22,14 +22,8 @@ word a = toZ w64 (ofZ w64 (a .args .v))
 complement-requires : tie.Need-complement-requires
 complement-requires c κs = position-tested (word (c .before)) refl ∙ ap not (c .if1 .taken)
 
-bits-from-requires : tie.Need-bits-from-requires
-bits-from-requires c κs = search needs
-
 natural-requires : tie.Need-natural-requires
 natural-requires c κs = position-tested (word (c .before)) refl ∙ ap not (c .if1 .left)
-
-bits-from-requires-2 : tie.Need-bits-from-requires-2
-bits-from-requires-2 c κs = search needs
 
 returns : tie.Need-returns
 unfolding bitwiseNot
@@ -52,8 +46,8 @@ word-bits-spec =
     tie.close
     (tie.spec
     complement-requires
-    bits-from-requires
+    (λ c κs. search needs)
     natural-requires
-    bits-from-requires-2
+    (λ c κs. search needs)
     returns
     returns-2)

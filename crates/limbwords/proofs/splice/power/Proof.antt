@@ -7,11 +7,8 @@ use borrow.Author.Needs.{needs}
 use Rattle.limbwords.proofs.splice.power.Statement.{statement}
 use Rattle.limbwords.proofs.splice.power.Tie as tie
 
-shl-result : tie.Need-shl-result
-shl-result c = search needs
-
 returns : tie.Need-returns
 returns c = ap (λ (n : ℕ). n % 2 ^ 64) (one-mul (2 ^ c .args .k)) ∙ mod-eq-of-lt (pow-lt (c .pre))
 
 pub power-spec : {M : Type 1} → statement M
-power-spec = tie.close (tie.spec shl-result returns)
+power-spec = tie.close (tie.spec (λ c. search needs) returns)

@@ -7,9 +7,6 @@ use Rattle.limbwords.proofs.SpliceLaws.{splice-lt, testbit-splice}
 use Rattle.limbwords.proofs.splice.splice.Statement.{statement}
 use Rattle.limbwords.proofs.splice.splice.Tie as tie
 
-power-requires : tie.Need-power-requires
-power-requires c κs = search needs
-
 div-result : tie.Need-div-result
 div-result c = rw (c .power .ensures) (pow-pos (c .before .args .k))
 
@@ -35,4 +32,4 @@ returns c t h = rw (c .power .ensures) (testbit-splice (c .before .args .low) (c
 pub splice-spec : {M : Type 1} → statement M
 splice-spec =
     tie.close
-    (tie.spec power-requires div-result mul-result rem-result add-result cast-result returns)
+    (tie.spec (λ c κs. search needs) div-result mul-result rem-result add-result cast-result returns)

@@ -8,23 +8,11 @@ use Rattle.limbwords.proofs.SpliceLaws.{ltb-sub}
 use Rattle.limbwords.proofs.splice.splice_at.Statement.{statement}
 use Rattle.limbwords.proofs.splice.splice_at.Tie as tie
 
-mul-below : tie.Need-mul-below
-mul-below c = search needs
-
 returns : tie.Need-returns
 returns c t h = rw (le-ltb (32 * c .before .args .j + t) (c .before .args .at) (omega arith)) refl
 
-add-if2 : tie.Need-add-if2
-add-if2 c = search needs
-
 returns-2 : tie.Need-returns-2
 returns-2 c t h = rw (lt-ltb (32 * c .before .before .args .j + t) (c .before .before .args .at) (omega arith)) refl
-
-sub-splice : tie.Need-sub-splice
-sub-splice c = search needs
-
-splice-requires : tie.Need-splice-requires
-splice-requires c κs = search needs
 
 returns-3 : tie.Need-returns-3
 returns-3 c t h =
@@ -33,4 +21,4 @@ returns-3 c t h =
 
 pub splice-at-spec : {M : Type 1} → statement M
 splice-at-spec =
-    tie.close (tie.spec mul-below returns add-if2 returns-2 sub-splice splice-requires returns-3)
+    tie.close (tie.spec (λ c. search needs) returns (λ c. search needs) returns-2 (λ c. search needs) (λ c κs. search needs) returns-3)

@@ -14,17 +14,8 @@ abbrev μ-loop : tie.MeasureT-loop
 loop-holds : tie.Need-loop-holds Inv-loop μ-loop
 loop-holds c = tt
 
-is-bitwise-name-requires : tie.Need-is-bitwise-name-requires Inv-loop μ-loop
-is-bitwise-name-requires c κs = search needs
-
 returns : tie.Need-returns Inv-loop μ-loop
 returns c = search needs
-
-add-index : tie.Need-add-index Inv-loop μ-loop
-add-index c = omega arith
-
-loop-less : tie.Need-loop-less Inv-loop μ-loop
-loop-less c = omega arith
 
 loop-again : tie.Need-loop-again Inv-loop μ-loop
 loop-again c = tt
@@ -39,9 +30,9 @@ bitwise-index-spec =
     Inv-loop
     μ-loop
     loop-holds
-    is-bitwise-name-requires
+    (λ c κs. search needs)
     returns
-    add-index
-    loop-less
+    (λ c. omega arith)
+    (λ c. omega arith)
     loop-again
     returns-2)

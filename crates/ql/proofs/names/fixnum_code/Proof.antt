@@ -14,17 +14,8 @@ abbrev μ-loop : tie.MeasureT-loop
 loop-holds : tie.Need-loop-holds Inv-loop μ-loop
 loop-holds c = tt
 
-is-fixnum-name-requires : tie.Need-is-fixnum-name-requires Inv-loop μ-loop
-is-fixnum-name-requires c κs = search needs
-
 returns : tie.Need-returns Inv-loop μ-loop
 returns c = search needs
-
-add-code : tie.Need-add-code Inv-loop μ-loop
-add-code c = omega arith
-
-loop-less : tie.Need-loop-less Inv-loop μ-loop
-loop-less c = omega arith
 
 loop-again : tie.Need-loop-again Inv-loop μ-loop
 loop-again c = tt
@@ -39,9 +30,9 @@ fixnum-code-spec =
     Inv-loop
     μ-loop
     loop-holds
-    is-fixnum-name-requires
+    (λ c κs. search needs)
     returns
-    add-code
-    loop-less
+    (λ c. omega arith)
+    (λ c. omega arith)
     loop-again
     returns-2)

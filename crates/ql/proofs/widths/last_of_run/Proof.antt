@@ -11,26 +11,8 @@ Inv-loop request width v last₀ last = (v ≤ last) × (last ≤ 62)
 abbrev μ-loop : tie.MeasureT-loop
 μ-loop request width v last₀ last = 62 - last
 
-loop-holds : tie.Need-loop-holds Inv-loop μ-loop
-loop-holds c = omega arith
-
-add-agree : tie.Need-add-agree Inv-loop μ-loop
-add-agree c = omega arith
-
-agree-requires : tie.Need-agree-requires Inv-loop μ-loop
-agree-requires c κs = search needs
-
 returns : tie.Need-returns Inv-loop μ-loop
 returns c = omega arith
-
-add-last : tie.Need-add-last Inv-loop μ-loop
-add-last c = omega arith
-
-loop-less : tie.Need-loop-less Inv-loop μ-loop
-loop-less c = omega arith
-
-loop-again : tie.Need-loop-again Inv-loop μ-loop
-loop-again c = omega arith
 
 returns-2 : tie.Need-returns-2 Inv-loop μ-loop
 returns-2 c = omega arith
@@ -41,11 +23,11 @@ last-of-run-spec =
     (tie.spec
     Inv-loop
     μ-loop
-    loop-holds
-    add-agree
-    agree-requires
+    (λ c. omega arith)
+    (λ c. omega arith)
+    (λ c κs. search needs)
     returns
-    add-last
-    loop-less
-    loop-again
+    (λ c. omega arith)
+    (λ c. omega arith)
+    (λ c. omega arith)
     returns-2)

@@ -14,12 +14,6 @@ abbrev μ-loop : tie.MeasureT-loop
 loop-holds : tie.Need-loop-holds Inv-loop μ-loop
 loop-holds c = tt
 
-print-from-requires : tie.Need-print-from-requires Inv-loop μ-loop
-print-from-requires c κs = search needs
-
-loop-less : tie.Need-loop-less Inv-loop μ-loop
-loop-less c = omega arith
-
 loop-again : tie.Need-loop-again Inv-loop μ-loop
 loop-again c = tt
 
@@ -29,4 +23,4 @@ returns c = search needs
 pub print-widths-spec : {M : Type 1} → statement M
 print-widths-spec =
     tie.close
-    (tie.spec Inv-loop μ-loop loop-holds print-from-requires loop-less loop-again returns)
+    (tie.spec Inv-loop μ-loop loop-holds (λ c κs. search needs) (λ c. omega arith) loop-again returns)

@@ -11,23 +11,11 @@ Inv-loop given width₀ width = Unit {0}
 abbrev μ-loop : tie.MeasureT-loop
 μ-loop given width₀ width = 63 - width
 
-take-request-requires : tie.Need-take-request-requires Inv-loop μ-loop
-take-request-requires c κs = search needs
-
 returns : tie.Need-returns Inv-loop μ-loop
 returns c = search needs
 
 loop-holds : tie.Need-loop-holds Inv-loop μ-loop
 loop-holds c = tt
-
-print-group-requires : tie.Need-print-group-requires Inv-loop μ-loop
-print-group-requires c κs = search needs
-
-add-width : tie.Need-add-width Inv-loop μ-loop
-add-width c = omega arith
-
-loop-less : tie.Need-loop-less Inv-loop μ-loop
-loop-less c = omega arith
 
 loop-again : tie.Need-loop-again Inv-loop μ-loop
 loop-again c = tt
@@ -41,11 +29,11 @@ run-spec =
     (tie.spec
     Inv-loop
     μ-loop
-    take-request-requires
+    (λ c κs. search needs)
     returns
     loop-holds
-    print-group-requires
-    add-width
-    loop-less
+    (λ c κs. search needs)
+    (λ c. omega arith)
+    (λ c. omega arith)
     loop-again
     returns-2)

@@ -5,26 +5,8 @@ use borrow.Author.Needs.{needs}
 use Rattle.text.proofs.form.is_integer.Statement.{statement}
 use Rattle.text.proofs.form.is_integer.Tie as tie
 
-take-apart-requires : tie.Need-take-apart-requires
-take-apart-requires c κs = search needs
-
 returns : tie.Need-returns
 returns c = sym (too-short _ (c .before .take-apart .ensures .0) (c .if1 .taken))
-
-base-of-requires : tie.Need-base-of-requires
-base-of-requires c κs = search needs
-
-sub-are-digits : tie.Need-sub-are-digits
-sub-are-digits c = search needs
-
-part-are-digits-start : tie.Need-part-are-digits-start
-part-are-digits-start c = search needs
-
-part-are-digits-end : tie.Need-part-are-digits-end
-part-are-digits-end c = search needs
-
-are-digits-requires : tie.Need-are-digits-requires
-are-digits-requires c κs = search needs
 
 returns-2 : tie.Need-returns-2
 returns-2 c =
@@ -35,11 +17,11 @@ pub is-integer-spec : {M : Type 1} → statement M
 is-integer-spec =
     tie.close
     (tie.spec
-    take-apart-requires
+    (λ c κs. search needs)
     returns
-    base-of-requires
-    sub-are-digits
-    part-are-digits-start
-    part-are-digits-end
-    are-digits-requires
+    (λ c κs. search needs)
+    (λ c. search needs)
+    (λ c. search needs)
+    (λ c. search needs)
+    (λ c κs. search needs)
     returns-2)

@@ -6,17 +6,8 @@ use borrow.Author.Needs.{needs}
 use Rattle.text.proofs.form.is_prefix.Statement.{statement}
 use Rattle.text.proofs.form.is_prefix.Tie as tie
 
-byte-at-requires : tie.Need-byte-at-requires
-byte-at-requires c κs = search needs
-
 returns : tie.Need-returns
 returns c = rw (prefix-is _ _ (c .before .byte-at .ensures) refl, ne-eqb _ 48 (c .if1 .taken)) refl
-
-add-byte-at : tie.Need-add-byte-at
-add-byte-at c = search needs
-
-byte-at-requires-2 : tie.Need-byte-at-requires-2
-byte-at-requires-2 c κs = search needs
 
 returns-2 : tie.Need-returns-2
 returns-2 c =
@@ -29,4 +20,4 @@ returns-3 c =
 pub is-prefix-spec : {M : Type 1} → statement M
 is-prefix-spec =
     tie.close
-    (tie.spec byte-at-requires returns add-byte-at byte-at-requires-2 returns-2 returns-3)
+    (tie.spec (λ c κs. search needs) returns (λ c. search needs) (λ c κs. search needs) returns-2 returns-3)

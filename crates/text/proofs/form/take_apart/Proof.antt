@@ -10,9 +10,6 @@ use borrow.Author.Needs.{needs}
 use Rattle.text.proofs.form.take_apart.Statement.{statement}
 use Rattle.text.proofs.form.take_apart.Tie as tie
 
-byte-at-requires : tie.Need-byte-at-requires
-byte-at-requires c κs = search needs
-
 -- the sign, as the tests have it
 tested : (c : tie.Joined1) → let first = c .before .byte-at .result in c .if1 .if2 ≡ eqb first 45 || eqb first 43
 tested c =
@@ -42,4 +39,4 @@ returns-2 c =
 
 pub take-apart-spec : {M : Type 1} → statement M
 take-apart-spec =
-    tie.close (tie.spec byte-at-requires is-prefix-requires add-t10 returns returns-2)
+    tie.close (tie.spec (λ c κs. search needs) is-prefix-requires add-t10 returns returns-2)

@@ -7,18 +7,6 @@ use borrow.Author.Needs.{needs}
 use Rattle.text.proofs.long.digits_limb.Statement.{statement}
 use Rattle.text.proofs.long.digits_limb.Tie as tie
 
-sum-digits-requires : tie.Need-sum-digits-requires
-sum-digits-requires c κs = search needs
-
-enum-known-n : tie.Need-enum-known-n
-enum-known-n c = search needs
-
-cast-result : tie.Need-cast-result
-cast-result c = search needs
-
-enum-told : tie.Need-enum-told
-enum-told c = search needs
-
 returns : tie.Need-returns
 returns c =
     let a = c .before .before .before .before .before in
@@ -34,4 +22,4 @@ returns-2 c =
 
 pub digits-limb-spec : {M : Type 1} → statement M
 digits-limb-spec =
-    tie.close (tie.spec sum-digits-requires enum-known-n cast-result enum-told returns returns-2)
+    tie.close (tie.spec (λ c κs. search needs) (λ c. search needs) (λ c. search needs) (λ c. search needs) returns returns-2)

@@ -18,9 +18,6 @@ abbrev μ-loop : tie.MeasureT-loop
 loop-holds : tie.Need-loop-holds Inv-loop μ-loop
 loop-holds c = filled-none _ _
 
-sub-from : tie.Need-sub-from Inv-loop μ-loop
-sub-from c = omega arith
-
 from-is : (c : tie.Joined1 Inv-loop μ-loop) → c .if1 .from ≡ c .before .before .loop .left - 8
 from-is c = ⊎-elim (λ w. w .1) (λ w. omega (arith, w .0 .left, w .1)) (c .if1 .came)
 
@@ -30,9 +27,6 @@ sub-digits-limb c = omega (arith, from-is (c .before))
 part-digits-limb-start : tie.Need-part-digits-limb-start Inv-loop μ-loop
 part-digits-limb-start c = omega (arith, from-is (c .before))
 
-part-digits-limb-end : tie.Need-part-digits-limb-end Inv-loop μ-loop
-part-digits-limb-end c = omega arith
-
 digits-limb-requires : tie.Need-digits-limb-requires Inv-loop μ-loop
 digits-limb-requires c κs =
     let j = c .before .before in
@@ -41,16 +35,10 @@ digits-limb-requires c κs =
     let n = j .before .before .loop .left - from in
     (areDigits-first 16 n _ (areDigits-rest 16 from (a .args .digits .now) (a .pre .0)), omega (arith, length-take n (drop from (a .args .digits .now)), from-is j))
 
-mul-out : tie.Need-mul-out Inv-loop μ-loop
-mul-out c = omega arith
-
 slice-write-out : tie.Need-slice-write-out Inv-loop μ-loop
 slice-write-out c =
     let l = c .before .before .before .before .before in
     omega (arith, filled-length (l .loop .inv) (l .before .before .before .pre .1))
-
-add-j : tie.Need-add-j Inv-loop μ-loop
-add-j c = omega arith
 
 loop-less : tie.Need-loop-less Inv-loop μ-loop
 loop-less c = let j = c .before .before .before in let e = from-is j in let h : j .if1 .from < j .before .before .loop .left = omega (arith, j .before .loop-test .taken) in h
@@ -62,14 +50,8 @@ loop-again c =
     let a = l .before .before .before in
     filled-more (l .loop .inv) (a .pre .1) (a .pre .0) (j .if1 .from) (j .before .loop-test .taken) (from-is j) (c .digits-limb .ensures)
 
-mul-out-2 : tie.Need-mul-out-2 Inv-loop μ-loop
-mul-out-2 c = omega arith
-
 slice-write-out-2 : tie.Need-slice-write-out-2 Inv-loop μ-loop
 slice-write-out-2 c = omega (arith, filled-length (c .before .loop .inv) (c .before .before .before .before .pre .1))
-
-add-result : tie.Need-add-result Inv-loop μ-loop
-add-result c = omega arith
 
 same-length : tie.Need-same-length Inv-loop μ-loop
 same-length c = length-set (c .before .loop .out) (c .before .loop .j) 0 ∙ filled-length (c .before .loop .inv) (c .before .before .before .before .pre .1)
@@ -86,18 +68,18 @@ put-digits-spec =
     Inv-loop
     μ-loop
     loop-holds
-    sub-from
+    (λ c. omega arith)
     sub-digits-limb
     part-digits-limb-start
-    part-digits-limb-end
+    (λ c. omega arith)
     digits-limb-requires
-    mul-out
+    (λ c. omega arith)
     slice-write-out
-    add-j
+    (λ c. omega arith)
     loop-less
     loop-again
-    mul-out-2
+    (λ c. omega arith)
     slice-write-out-2
-    add-result
+    (λ c. omega arith)
     same-length
     returns)

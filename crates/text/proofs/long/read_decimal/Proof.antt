@@ -5,7 +5,7 @@ use mathlib.Core.Path.{_≡_, refl, sym, ap, _∙_}
 use lib.Dec.{ltb, lit<}
 use lib.ListN.{length}
 use borrow.Author.Tests.{lt-ltb, le-ltb, le-leb, lt-leb}
-use Rattle.bits.specs.Sign.{withSign}
+use Rattle.words.specs.Sign.{withSign}
 use Rattle.bits.proofs.Booleans.{and-false}
 use Rattle.text.specs.Numerals.{numeral}
 use Rattle.text.proofs.ReadingLaws.{value-asWord, beyond-asWord}
@@ -19,15 +19,6 @@ returns c =
     let a = c .before .before .before .args in
     lays-none _ _ (rw (lt-leb 3 (length (a .out .now)) (c .if1 .taken)) (and-false (ltb (numeral 10 (a .digits .now)) (2 ^ 64))))
 
-sum-digits-requires : tie.Need-sum-digits-requires
-sum-digits-requires c κs = search needs
-
-enum-known-n : tie.Need-enum-known-n
-enum-known-n c = search needs
-
-put-word-requires : tie.Need-put-word-requires
-put-word-requires c κs = search needs
-
 -- the number, as one word
 number : (c : tie.After-n) → let a = c .before .before .before .before .before .before .args in
     (numeral 10 (a .digits .now) ≡ c .n .given .0 .0) × (c .n .given .0 .0 < 2 ^ 64)
@@ -40,12 +31,6 @@ sign-first-requires c κs =
     let a = v .before .before .before .before .before .before in
     let room = word-room _ (number v .1) in
     ((lit< tt, first-within 3 _ (a .args .out .now) (d .put-word .ensures) room (v .before .before .before .if1 .left)), first-natural 3 _ (a .args .out .now) (d .put-word .ensures) room)
-
-enum-told : tie.Need-enum-told
-enum-told c = search needs
-
-same-length : tie.Need-same-length
-same-length c = search needs
 
 returns-2 : tie.Need-returns-2
 returns-2 c =
@@ -68,11 +53,11 @@ read-decimal-spec =
     tie.close
     (tie.spec
     returns
-    sum-digits-requires
-    enum-known-n
-    put-word-requires
+    (λ c κs. search needs)
+    (λ c. search needs)
+    (λ c κs. search needs)
     sign-first-requires
-    enum-told
-    same-length
+    (λ c. search needs)
+    (λ c. search needs)
     returns-2
     returns-3)

@@ -11,14 +11,8 @@ use borrow.Author.Needs.{needs}
 use Rattle.text.proofs.long.read_hexadecimal.Statement.{statement}
 use Rattle.text.proofs.long.read_hexadecimal.Tie as tie
 
-add-if1 : tie.Need-add-if1
-add-if1 c = search needs
-
 returns : tie.Need-returns
 returns c = let a = c .before .before .before .args in lays-none _ _ (lt-leb ((length (a .digits .now) + 7) / 8 + 1) (length (a .out .now)) (omega arith))
-
-put-digits-requires : tie.Need-put-digits-requires
-put-digits-requires c κs = search needs
 
 -- the limbs that were put are enough
 room : (c : tie.After-put-digits) → let a = c .before .before .before .before .before .args in bitLength (pos (numeral 16 (a .digits .now))) < 32 * c .put-digits .result
@@ -31,9 +25,6 @@ sign-first-requires c κs =
     let e = d .put-digits .ensures in
     ((omega (arith, e .0), first-within _ _ (a .out .now) (e .1) (room d) (omega (arith, e .0))), first-natural _ _ (a .out .now) (e .1) (room d))
 
-same-length : tie.Need-same-length
-same-length c = search needs
-
 returns-2 : tie.Need-returns-2
 returns-2 c =
     let d = c .before .before .before .before .before .before in
@@ -45,4 +36,4 @@ returns-2 c =
 pub read-hexadecimal-spec : {M : Type 1} → statement M
 read-hexadecimal-spec =
     tie.close
-    (tie.spec add-if1 returns put-digits-requires sign-first-requires same-length returns-2)
+    (tie.spec (λ c. search needs) returns (λ c κs. search needs) sign-first-requires (λ c. search needs) returns-2)

@@ -10,14 +10,8 @@ use borrow.Author.Needs.{needs}
 use Rattle.text.proofs.long.read_limbs.Statement.{statement}
 use Rattle.text.proofs.long.read_limbs.Tie as tie
 
-is-integer-requires : tie.Need-is-integer-requires
-is-integer-requires c κs = search needs
-
 returns : tie.Need-returns
 returns c = limbs-malformed _ _ _ (sym (c .before .is-integer .ensures) ∙ not-true _ (c .if1 .taken))
-
-take-apart-requires : tie.Need-take-apart-requires
-take-apart-requires c κs = search needs
 
 -- where it is an integer
 integral : (c : tie.After-take-apart) → isInteger (c .before .before .before .before .before .args .text .now) ≡ true
@@ -29,45 +23,21 @@ sixteen c = rw (c .if2 .taken) refl
 ten : (c : tie.Else2) → _≡_ {A = ℕ} 10 (cond (c .before .take-apart .result .hexadecimal) 16 10)
 ten c = rw (c .if2 .left) refl
 
-sub-read-hexadecimal : tie.Need-sub-read-hexadecimal
-sub-read-hexadecimal c = search needs
-
-part-read-hexadecimal-start : tie.Need-part-read-hexadecimal-start
-part-read-hexadecimal-start c = search needs
-
-part-read-hexadecimal-end : tie.Need-part-read-hexadecimal-end
-part-read-hexadecimal-end c = search needs
-
 read-hexadecimal-requires : tie.Need-read-hexadecimal-requires
 read-hexadecimal-requires c κs =
     let t = c .before .before in
     digits-of _ (t .before .take-apart .ensures .0) (sixteen t) (integral (t .before))
-
-sub-read-decimal : tie.Need-sub-read-decimal
-sub-read-decimal c = search needs
-
-part-read-decimal-start : tie.Need-part-read-decimal-start
-part-read-decimal-start c = search needs
-
-part-read-decimal-end : tie.Need-part-read-decimal-end
-part-read-decimal-end c = search needs
 
 read-decimal-requires : tie.Need-read-decimal-requires
 read-decimal-requires c κs =
     let t = c .before .before in
     digits-of _ (t .before .take-apart .ensures .0) (ten t) (integral (t .before))
 
-same-length : tie.Need-same-length
-same-length c = search needs
-
 returns-2 : tie.Need-returns-2
 returns-2 c =
     let t = c .before .before .before .before .before in
     let e = t .before .take-apart .ensures .0 in
     limbs-read _ _ (integral (t .before)) (integer-is _ e (sixteen t)) (hexadecimal-fits _ _ e (t .if2 .taken)) (c .before .before .read-hexadecimal .ensures)
-
-same-length-2 : tie.Need-same-length-2
-same-length-2 c = search needs
 
 returns-3 : tie.Need-returns-3
 returns-3 c =
@@ -79,18 +49,18 @@ pub read-limbs-spec : {M : Type 1} → statement M
 read-limbs-spec =
     tie.close
     (tie.spec
-    is-integer-requires
+    (λ c κs. search needs)
     returns
-    take-apart-requires
-    sub-read-hexadecimal
-    part-read-hexadecimal-start
-    part-read-hexadecimal-end
+    (λ c κs. search needs)
+    (λ c. search needs)
+    (λ c. search needs)
+    (λ c. search needs)
     read-hexadecimal-requires
-    sub-read-decimal
-    part-read-decimal-start
-    part-read-decimal-end
+    (λ c. search needs)
+    (λ c. search needs)
+    (λ c. search needs)
     read-decimal-requires
-    same-length
+    (λ c. search needs)
     returns-2
-    same-length-2
+    (λ c. search needs)
     returns-3)

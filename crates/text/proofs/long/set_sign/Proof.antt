@@ -4,16 +4,13 @@ use mathlib.Core.Path.{_≡_, ap, _∙_}
 use mathlib.Core.Logic.{⊎-elim}
 use lib.IntN.{natAbs}
 use lib.ListN.{length}
-use Rattle.bits.specs.Sign.{withSign}
+use Rattle.words.specs.Sign.{withSign}
 use Rattle.limbwords.specs.Value.{value, limbsOf}
 use Rattle.limbwords.proofs.ValueLaws.{length-limbsOf}
 use Rattle.text.proofs.ReadingLimbs.{positive-limbs, negative-limbs, signed-limbs}
 use borrow.Author.Needs.{needs}
 use Rattle.text.proofs.long.set_sign.Statement.{statement}
 use Rattle.text.proofs.long.set_sign.Tie as tie
-
-negate-requires : tie.Need-negate-requires
-negate-requires c κs = search needs
 
 -- the limbs, with the sign or without
 placed : (c : tie.Joined1) → let a = c .before .before .args in
@@ -40,4 +37,4 @@ returns c =
     signed-limbs (a .args .negative) (a .args .x .now) (a .pre .1) (a .pre .0) (placed j) (c .shortest-length .ensures)
 
 pub set-sign-spec : {M : Type 1} → statement M
-set-sign-spec = tie.close (tie.spec negate-requires shortest-length-requires same-length returns)
+set-sign-spec = tie.close (tie.spec (λ c κs. search needs) shortest-length-requires same-length returns)

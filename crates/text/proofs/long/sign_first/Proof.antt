@@ -7,9 +7,6 @@ use borrow.Author.Needs.{needs}
 use Rattle.text.proofs.long.sign_first.Statement.{statement}
 use Rattle.text.proofs.long.sign_first.Tie as tie
 
-slice-relend-prefix-set-sign : tie.Need-slice-relend-prefix-set-sign
-slice-relend-prefix-set-sign c = search needs
-
 slice-aggregate-set-sign : tie.Need-slice-aggregate-set-sign
 slice-aggregate-set-sign c = sym (length-take-le _ _ (c .before .before .pre .0 .1))
 
@@ -18,9 +15,6 @@ set-sign-requires c κs =
     let a = c .before .before in
     (omega (arith, length-take-le (a .args .n) (a .args .out .now) (a .pre .0 .1)), a .pre .1)
 
-same-length : tie.Need-same-length
-same-length c = search needs
-
 returns : tie.Need-returns
 returns c = let e = c .before .before .set-sign .ensures in lays-first _ _ _ (e .0) (e .1 .0) (e .1 .1)
 
@@ -28,8 +22,8 @@ pub sign-first-spec : {M : Type 1} → statement M
 sign-first-spec =
     tie.close
     (tie.spec
-    slice-relend-prefix-set-sign
+    (λ c. search needs)
     slice-aggregate-set-sign
     set-sign-requires
-    same-length
+    (λ c. search needs)
     returns)

@@ -18,34 +18,10 @@ abbrev μ-loop : tie.MeasureT-loop
 loop-holds : tie.Need-loop-holds Inv-loop μ-loop
 loop-holds c = negated-none _
 
-mul-n : tie.Need-mul-n Inv-loop μ-loop
-mul-n c = omega arith
-
-slice-read-n : tie.Need-slice-read-n Inv-loop μ-loop
-slice-read-n c = omega arith
-
-negated-requires : tie.Need-negated-requires Inv-loop μ-loop
-negated-requires c κs = search needs
-
-mul-x : tie.Need-mul-x Inv-loop μ-loop
-mul-x c = omega arith
-
-slice-write-x : tie.Need-slice-write-x Inv-loop μ-loop
-slice-write-x c = omega arith
-
-add-j : tie.Need-add-j Inv-loop μ-loop
-add-j c = omega arith
-
-loop-less : tie.Need-loop-less Inv-loop μ-loop
-loop-less c = omega arith
-
 loop-again : tie.Need-loop-again Inv-loop μ-loop
 loop-again c =
     negated-more (c .if1 .lower) _ (c .before .before .before .before .loop .inv) (omega arith) (c .before .negated .ensures)
     (⊎-elim (λ w. w .1 ∙ rw (w .0 .taken)) (λ w. w .1 ∙ rw (w .0 .left)) (c .if1 .came))
-
-same-length : tie.Need-same-length Inv-loop μ-loop
-same-length c = omega arith
 
 returns : tie.Need-returns Inv-loop μ-loop
 returns c = negated-all (c .before .loop .inv) (omega arith) ∙ negated-value _ (λ i. c .before .before .slice-known .given i .fits)
@@ -57,13 +33,13 @@ negate-spec =
     Inv-loop
     μ-loop
     loop-holds
-    mul-n
-    slice-read-n
-    negated-requires
-    mul-x
-    slice-write-x
-    add-j
-    loop-less
+    (λ c. omega arith)
+    (λ c. omega arith)
+    (λ c κs. search needs)
+    (λ c. omega arith)
+    (λ c. omega arith)
+    (λ c. omega arith)
+    (λ c. omega arith)
     loop-again
-    same-length
+    (λ c. omega arith)
     returns)

@@ -4,9 +4,6 @@ use borrow.Author.Needs.{needs}
 use Rattle.text.proofs.negate.negated.Statement.{statement}
 use Rattle.text.proofs.negate.negated.Tie as tie
 
-sub-result : tie.Need-sub-result
-sub-result c = search needs
-
 returns : tie.Need-returns
 returns c = rw (c .if1 .taken)
 
@@ -17,4 +14,4 @@ returns-3 : tie.Need-returns-3
 returns-3 c = rw (c .before .if1 .left) (omega arith)
 
 pub negated-spec : {M : Type 1} → statement M
-negated-spec = tie.close (tie.spec sub-result returns returns-2 returns-3)
+negated-spec = tie.close (tie.spec (λ c. search needs) returns returns-2 returns-3)

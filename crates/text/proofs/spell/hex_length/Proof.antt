@@ -15,26 +15,11 @@ Inv-loop x k₀ k = (k ≤ 8 * length x) × Below (natural x) k
 abbrev μ-loop : tie.MeasureT-loop
 μ-loop x k₀ k = k
 
-mul-k : tie.Need-mul-k Inv-loop μ-loop
-mul-k c = omega arith
-
 loop-holds : tie.Need-loop-holds Inv-loop μ-loop
 loop-holds c = (omega arith, record { some = omega arith; below = natural-lt _ (λ j. c .shared-slice-known .given j .fits) })
 
-sub-nibble : tie.Need-sub-nibble Inv-loop μ-loop
-sub-nibble c = omega arith
-
-nibble-requires : tie.Need-nibble-requires Inv-loop μ-loop
-nibble-requires c κs = omega arith
-
 returns : tie.Need-returns Inv-loop μ-loop
 returns c = (below-settled (c .before .before .before .loop .inv .1) (λ e. c .if1 .taken (c .before .nibble .ensures ∙ e)), omega arith)
-
-sub-k : tie.Need-sub-k Inv-loop μ-loop
-sub-k c = omega arith
-
-loop-less : tie.Need-loop-less Inv-loop μ-loop
-loop-less c = omega arith
 
 loop-again : tie.Need-loop-again Inv-loop μ-loop
 loop-again c = (omega arith, below-less (c .before .before .before .loop .inv .1) (omega arith) (sym (c .before .nibble .ensures) ∙ c .if1 .left))
@@ -48,12 +33,12 @@ hex-length-spec =
     (tie.spec
     Inv-loop
     μ-loop
-    mul-k
+    (λ c. omega arith)
     loop-holds
-    sub-nibble
-    nibble-requires
+    (λ c. omega arith)
+    (λ c κs. omega arith)
     returns
-    sub-k
-    loop-less
+    (λ c. omega arith)
+    (λ c. omega arith)
     loop-again
     returns-2)

@@ -11,12 +11,6 @@ use borrow.Author.Needs.{needs}
 use Rattle.text.proofs.spell.put_natural.Statement.{statement}
 use Rattle.text.proofs.spell.put_natural.Tie as tie
 
-hex-length-requires : tie.Need-hex-length-requires
-hex-length-requires c κs = search needs
-
-slice-write-out : tie.Need-slice-write-out
-slice-write-out c = search needs
-
 slice-write-out-2 : tie.Need-slice-write-out-2
 slice-write-out-2 c = simp length-set (omega arith)
 
@@ -26,16 +20,10 @@ sub-put-nibbles c = simp length-set (omega arith)
 part-put-nibbles-start : tie.Need-part-put-nibbles-start
 part-put-nibbles-start c = simp length-set (omega arith)
 
-part-put-nibbles-end : tie.Need-part-put-nibbles-end
-part-put-nibbles-end c = search needs
-
 put-nibbles-requires : tie.Need-put-nibbles-requires
 put-nibbles-requires c κs =
     let out = c .before .before .before .before .args .out .now in
     (omega arith, omega (arith, part-length out (48 ∷ 120 ∷ []) (omega arith)))
-
-add-result : tie.Need-add-result
-add-result c = omega arith
 
 same-length : tie.Need-same-length
 same-length c = c .before .out .given .1 ∙ simp length-set
@@ -55,13 +43,13 @@ pub put-natural-spec : {M : Type 1} → statement M
 put-natural-spec =
     tie.close
     (tie.spec
-    hex-length-requires
-    slice-write-out
+    (λ c κs. search needs)
+    (λ c. search needs)
     slice-write-out-2
     sub-put-nibbles
     part-put-nibbles-start
-    part-put-nibbles-end
+    (λ c. search needs)
     put-nibbles-requires
-    add-result
+    (λ c. omega arith)
     same-length
     returns)

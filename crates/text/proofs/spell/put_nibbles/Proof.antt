@@ -17,27 +17,6 @@ abbrev μ-loop : tie.MeasureT-loop
 loop-holds : tie.Need-loop-holds Inv-loop μ-loop
 loop-holds c = put-none _ _ _
 
-nibble-requires : tie.Need-nibble-requires Inv-loop μ-loop
-nibble-requires c κs = omega arith
-
-glyph-requires : tie.Need-glyph-requires Inv-loop μ-loop
-glyph-requires c κs = omega arith
-
-sub-out : tie.Need-sub-out Inv-loop μ-loop
-sub-out c = omega arith
-
-sub-out-2 : tie.Need-sub-out-2 Inv-loop μ-loop
-sub-out-2 c = omega arith
-
-slice-write-out : tie.Need-slice-write-out Inv-loop μ-loop
-slice-write-out c = omega arith
-
-add-i : tie.Need-add-i Inv-loop μ-loop
-add-i c = omega arith
-
-loop-less : tie.Need-loop-less Inv-loop μ-loop
-loop-less c = omega arith
-
 loop-again : tie.Need-loop-again Inv-loop μ-loop
 loop-again c =
     put-more _ (c .before .before .before .loop .inv) (omega arith) (omega arith) (c .glyph .ensures ∙ ap glyph (c .before .nibble .ensures))
@@ -55,13 +34,13 @@ put-nibbles-spec =
     Inv-loop
     μ-loop
     loop-holds
-    nibble-requires
-    glyph-requires
-    sub-out
-    sub-out-2
-    slice-write-out
-    add-i
-    loop-less
+    (λ c κs. omega arith)
+    (λ c κs. omega arith)
+    (λ c. omega arith)
+    (λ c. omega arith)
+    (λ c. omega arith)
+    (λ c. omega arith)
+    (λ c. omega arith)
     loop-again
     same-length
     returns)

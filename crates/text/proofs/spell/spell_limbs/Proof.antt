@@ -15,29 +15,8 @@ returns c =
     spells-none _ _
     (λ h l. ⊎-elim (λ w. omega (arith, w .taken)) (λ w. let short = ltb-true (length (c .before .before .before .args .out .now)) 3 (w .1 .taken) in omega arith) (c .if1 .came))
 
-sub-if3 : tie.Need-sub-if3
-sub-if3 c = search needs
-
 returns-2 : tie.Need-returns-2
 returns-2 c = spells-none _ _ (λ h l. omega arith)
-
-sub-if4 : tie.Need-sub-if4
-sub-if4 c = search needs
-
-mul-if4 : tie.Need-mul-if4
-mul-if4 c = search needs
-
-slice-read-if4 : tie.Need-slice-read-if4
-slice-read-if4 c = search needs
-
-put-natural-requires : tie.Need-put-natural-requires
-put-natural-requires c κs = search needs
-
-same-length : tie.Need-same-length
-same-length c = search needs
-
-same-length-2 : tie.Need-same-length-2
-same-length-2 c = search needs
 
 returns-3 : tie.Need-returns-3
 returns-3 c =
@@ -48,20 +27,11 @@ returns-3 c =
     (p .ensures .0 .0)
     (p .ensures .1)
 
-negate-requires : tie.Need-negate-requires
-negate-requires c κs = search needs
-
-slice-write-out : tie.Need-slice-write-out
-slice-write-out c = search needs
-
 sub-put-natural : tie.Need-sub-put-natural
 sub-put-natural c = simp length-set (omega arith)
 
 part-put-natural-start : tie.Need-part-put-natural-start
 part-put-natural-start c = simp length-set (omega arith)
-
-part-put-natural-end : tie.Need-part-put-natural-end
-part-put-natural-end c = search needs
 
 put-natural-requires-2 : tie.Need-put-natural-requires-2
 put-natural-requires-2 c κs =
@@ -72,9 +42,6 @@ add-result : tie.Need-add-result
 add-result c =
     let a = c .before .before .before .before .before .before .before .before .before .before .before .before .before .before .before .before in
     omega (arith, part-length (a .args .out .now) (45 ∷ []) (omega arith))
-
-same-length-3 : tie.Need-same-length-3
-same-length-3 c = search needs
 
 same-length-4 : tie.Need-same-length-4
 same-length-4 c = c .before .out2 .given .1 ∙ simp length-set
@@ -95,22 +62,22 @@ spell-limbs-spec =
     tie.close
     (tie.spec
     returns
-    sub-if3
+    (λ c. search needs)
     returns-2
-    sub-if4
-    mul-if4
-    slice-read-if4
-    put-natural-requires
-    same-length
-    same-length-2
+    (λ c. search needs)
+    (λ c. search needs)
+    (λ c. search needs)
+    (λ c κs. search needs)
+    (λ c. search needs)
+    (λ c. search needs)
     returns-3
-    negate-requires
-    slice-write-out
+    (λ c κs. search needs)
+    (λ c. search needs)
     sub-put-natural
     part-put-natural-start
-    part-put-natural-end
+    (λ c. search needs)
     put-natural-requires-2
     add-result
-    same-length-3
+    (λ c. search needs)
     same-length-4
     returns-4)

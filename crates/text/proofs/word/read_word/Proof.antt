@@ -2,8 +2,8 @@
 use mathlib.Core.Path.{_≡_, sym, ap, _∙_}
 use mathlib.Core.Bool.{Bool, true, cond}
 use borrow.Author.Tests.{not-true, not-false}
-use Rattle.bits.specs.Sign.{withSign}
-use Rattle.bits.proofs.WordLaws.{back}
+use Rattle.words.specs.Sign.{withSign}
+use Rattle.words.proofs.WordLaws.{back}
 use Rattle.text.specs.declared.Reading.{Reading}
 use Rattle.text.specs.Numerals.{isInteger, integer, numeral}
 use Rattle.text.specs.Readings.{reading}
@@ -13,26 +13,8 @@ use borrow.Author.Needs.{needs}
 use Rattle.text.proofs.word.read_word.Statement.{statement}
 use Rattle.text.proofs.word.read_word.Tie as tie
 
-is-integer-requires : tie.Need-is-integer-requires
-is-integer-requires c κs = search needs
-
 returns : tie.Need-returns
 returns c = sym (reading-malformed _ (sym (c .before .is-integer .ensures) ∙ not-true _ (c .if1 .taken)))
-
-take-apart-requires : tie.Need-take-apart-requires
-take-apart-requires c κs = search needs
-
-base-of-requires : tie.Need-base-of-requires
-base-of-requires c κs = search needs
-
-sub-sum-digits : tie.Need-sub-sum-digits
-sub-sum-digits c = search needs
-
-part-sum-digits-start : tie.Need-part-sum-digits-start
-part-sum-digits-start c = search needs
-
-part-sum-digits-end : tie.Need-part-sum-digits-end
-part-sum-digits-end c = search needs
 
 -- where it is an integer
 integral : (c : tie.After-take-apart) → isInteger (c .before .before .before .before .args .text .now) ≡ true
@@ -47,17 +29,8 @@ sum-digits-requires c κs =
     let b = c .before in
     (base-bounds (b .before .take-apart .result .hexadecimal) (b .base-of .ensures), digits-of _ (b .before .take-apart .ensures .0) (b .base-of .ensures) (integral (b .before)))
 
-enum-known-n : tie.Need-enum-known-n
-enum-known-n c = search needs
-
-absolute-fits-requires : tie.Need-absolute-fits-requires
-absolute-fits-requires c κs = search needs
-
 from-absolute-requires : tie.Need-from-absolute-requires
 from-absolute-requires c κs = sym (c .before .absolute-fits .ensures) ∙ c .if2 .taken
-
-enum-told : tie.Need-enum-told
-enum-told c = search needs
 
 -- the text of a number below 2^64
 value-reading : (c : tie.After-absolute-fits) {t : Bool} → c .absolute-fits .result ≡ t → let v = c .before .before in
@@ -89,18 +62,18 @@ pub read-word-spec : {M : Type 1} → statement M
 read-word-spec =
     tie.close
     (tie.spec
-    is-integer-requires
+    (λ c κs. search needs)
     returns
-    take-apart-requires
-    base-of-requires
-    sub-sum-digits
-    part-sum-digits-start
-    part-sum-digits-end
+    (λ c κs. search needs)
+    (λ c κs. search needs)
+    (λ c. search needs)
+    (λ c. search needs)
+    (λ c. search needs)
     sum-digits-requires
-    enum-known-n
-    absolute-fits-requires
+    (λ c. search needs)
+    (λ c κs. search needs)
     from-absolute-requires
-    enum-told
+    (λ c. search needs)
     returns-2
     returns-3
     returns-4)

@@ -24,12 +24,6 @@ loop-holds : tie.Need-loop-holds Inv-loop μ-loop
 unfolding numeral numeralFrom
 loop-holds c = (zero-le, (refl, lit< tt))
 
-shared-slice-read-digit : tie.Need-shared-slice-read-digit Inv-loop μ-loop
-shared-slice-read-digit c = omega arith
-
-digit-requires : tie.Need-digit-requires Inv-loop μ-loop
-digit-requires c κs = search needs
-
 -- the digit that was read
 read : (c : tie.After-digit Inv-loop μ-loop) → let a = c .before .before .before .before .before .args in c .digit .result < a .base
 read c = let a = c .before .before .before .before .before in
@@ -38,9 +32,6 @@ read c = let a = c .before .before .before .before .before in
 
 sub-if1 : tie.Need-sub-if1 Inv-loop μ-loop
 sub-if1 c = omega (arith, read c)
-
-div-if1 : tie.Need-div-if1 Inv-loop μ-loop
-div-if1 c = omega arith
 
 -- with it, one digit more
 so-far : (c : tie.After-digit Inv-loop μ-loop) → let a = c .before .before .before .before .before .args in let l = c .before .before .before .loop in
@@ -70,12 +61,6 @@ mul-n c = omega (arith, fitting c)
 add-n : tie.Need-add-n Inv-loop μ-loop
 add-n c = omega (arith, fitting c)
 
-add-i : tie.Need-add-i Inv-loop μ-loop
-add-i c = omega arith
-
-loop-less : tie.Need-loop-less Inv-loop μ-loop
-loop-less c = omega arith
-
 loop-again : tie.Need-loop-again Inv-loop μ-loop
 loop-again c = (omega arith, (so-far (c .before), omega (arith, fitting c)))
 
@@ -94,14 +79,14 @@ sum-digits-spec =
     Inv-loop
     μ-loop
     loop-holds
-    shared-slice-read-digit
-    digit-requires
+    (λ c. omega arith)
+    (λ c κs. search needs)
     sub-if1
-    div-if1
+    (λ c. omega arith)
     returns
     mul-n
     add-n
-    add-i
-    loop-less
+    (λ c. omega arith)
+    (λ c. omega arith)
     loop-again
     returns-2)

@@ -8,20 +8,14 @@ use lib.Count as digits
 use lib.Count.{ones-le}
 use lib.Signed.{mag}
 use Rattle.bits.specs.Testbit.{isNegative}
-use Rattle.bits.specs.Sign.{ofMagnitude}
-use Rattle.bits.proofs.WordLaws.{back}
-use Rattle.bits.proofs.CountWords.{count-bitCount}
+use Rattle.words.specs.Sign.{ofMagnitude}
+use Rattle.words.proofs.WordLaws.{back}
+use Rattle.words.proofs.CountWords.{count-bitCount}
 use Rattle.words.proofs.count.bit_count.Statement.{statement}
 use Rattle.words.proofs.count.bit_count.Tie as tie
 
-magnitude-requires : tie.Need-magnitude-requires
-magnitude-requires c κs = search needs
-
 cast-ones : tie.Need-cast-ones
 cast-ones c = record { fits = omega (arith, ones-le 64 (c .magnitude .result) (c .magnitude .ok)) }
-
-is-negative-requires : tie.Need-is-negative-requires
-is-negative-requires c κs = search needs
 
 from-magnitude-requires : tie.Need-from-magnitude-requires
 from-magnitude-requires c κs = omega (arith, ones-le 64 (c .before .magnitude .result) (c .before .magnitude .ok))
@@ -37,4 +31,4 @@ returns c =
     ∙ count-bitCount (a .args .x)
 
 pub bit-count-spec : {M : Type 1} → statement M
-bit-count-spec = tie.close (tie.spec magnitude-requires cast-ones is-negative-requires from-magnitude-requires returns)
+bit-count-spec = tie.close (tie.spec (λ c κs. search needs) cast-ones (λ c κs. search needs) from-magnitude-requires returns)

@@ -7,14 +7,11 @@ use lib.Count as digits
 use lib.Count.{trailing-le}
 use lib.IntN.{pos, natAbs}
 use lib.Signed.{natAbs-le}
-use Rattle.bits.specs.Sign.{ofMagnitude}
-use Rattle.bits.proofs.WordLaws.{back}
-use Rattle.bits.proofs.CountWords.{trailing-firstBitSet, none-firstBitSet}
+use Rattle.words.specs.Sign.{ofMagnitude}
+use Rattle.words.proofs.WordLaws.{back}
+use Rattle.words.proofs.CountWords.{trailing-firstBitSet, none-firstBitSet}
 use Rattle.words.proofs.count.first_bit_set.Statement.{statement}
 use Rattle.words.proofs.count.first_bit_set.Tie as tie
-
-absolute-requires : tie.Need-absolute-requires
-absolute-requires c κs = search needs
 
 cast-from-magnitude : tie.Need-cast-from-magnitude
 cast-from-magnitude c = record { fits = omega (arith, trailing-le 64 (c .before .absolute .result)) }
@@ -39,4 +36,4 @@ returns-2 c =
     ∙ sym (trailing-firstBitSet (a .args .x) 64 positive (omega (arith, natAbs-le (a .args .x) (a .fits .x .sfits))))
 
 pub first-bit-set-spec : {M : Type 1} → statement M
-first-bit-set-spec = tie.close (tie.spec absolute-requires cast-from-magnitude from-magnitude-requires returns returns-2)
+first-bit-set-spec = tie.close (tie.spec (λ c κs. search needs) cast-from-magnitude from-magnitude-requires returns returns-2)

@@ -7,23 +7,17 @@ use lib.Count as digits
 use lib.Count.{leading-le}
 use lib.IntN.{pos}
 use lib.Signed.{mag}
-use Rattle.bits.specs.Sign.{ofMagnitude}
-use Rattle.bits.proofs.WordLaws.{back}
-use Rattle.bits.proofs.CountWords.{leading-bitLength}
+use Rattle.words.specs.Sign.{ofMagnitude}
+use Rattle.words.proofs.WordLaws.{back}
+use Rattle.words.proofs.CountWords.{leading-bitLength}
 use Rattle.words.proofs.count.length.Statement.{statement}
 use Rattle.words.proofs.count.length.Tie as tie
-
-magnitude-requires : tie.Need-magnitude-requires
-magnitude-requires c κs = search needs
 
 cast-zeros : tie.Need-cast-zeros
 cast-zeros c = record { fits = omega (arith, leading-le 64 (c .magnitude .result)) }
 
 sub-from-magnitude : tie.Need-sub-from-magnitude
 sub-from-magnitude c = leading-le 64 (c .magnitude .result)
-
-from-magnitude-requires : tie.Need-from-magnitude-requires
-from-magnitude-requires c κs = search needs
 
 returns : tie.Need-returns
 unfolding ofMagnitude
@@ -35,4 +29,4 @@ returns c =
     ∙ ap pos (leading-bitLength (a .args .x) 64 (omega (arith, a .fits .x .sfits)))
 
 pub length-spec : {M : Type 1} → statement M
-length-spec = tie.close (tie.spec magnitude-requires cast-zeros sub-from-magnitude from-magnitude-requires returns)
+length-spec = tie.close (tie.spec (λ c κs. search needs) cast-zeros sub-from-magnitude (λ c κs. search needs) returns)

@@ -9,7 +9,7 @@ use lib.IntN.{natAbs}
 use lib.Signed.{natAbs-le}
 use Rattle.bits.specs.Testbit.{isNegative}
 use Rattle.words.specs.Division.{Allowed, Divided}
-use Rattle.bits.proofs.WordLaws.{back}
+use Rattle.words.proofs.WordLaws.{back}
 use Rattle.words.proofs.DivisionWords.{remainder, answer, divided}
 use Rattle.words.proofs.division.divide.Statement.{statement}
 use Rattle.words.proofs.division.divide.Tie as tie
@@ -38,18 +38,6 @@ rounded c up e =
     (remainder u (c .before .before .before .before .is-negative .result) (c .before .before .absolute .result % c .before .absolute2 .result)
     (c .before .absolute2 .result)))
     e (c .rounds-up .ensures))
-
-is-negative-requires : tie.Need-is-negative-requires
-is-negative-requires c κs = search needs
-
-is-negative-requires-2 : tie.Need-is-negative-requires-2
-is-negative-requires-2 c κs = search needs
-
-absolute-requires : tie.Need-absolute-requires
-absolute-requires c κs = search needs
-
-absolute-requires-2 : tie.Need-absolute-requires-2
-absolute-requires-2 c κs = search needs
 
 div-q : tie.Need-div-q
 div-q c = positive c
@@ -82,10 +70,10 @@ pub divide-spec : {M : Type 1} → statement M
 divide-spec =
     tie.close
     (tie.spec
-    is-negative-requires
-    is-negative-requires-2
-    absolute-requires
-    absolute-requires-2
+    (λ c κs. search needs)
+    (λ c κs. search needs)
+    (λ c κs. search needs)
+    (λ c κs. search needs)
     div-q
     rem-r
     rounds-up-requires

@@ -4,12 +4,6 @@ use Rattle.words.proofs.DivisionWords.{nearest-negative, nearest-nonneg
 use Rattle.words.proofs.division.rounds_up.Statement.{statement}
 use Rattle.words.proofs.division.rounds_up.Tie as tie
 
-sub-result : tie.Need-sub-result
-sub-result c = search needs
-
-sub-result-2 : tie.Need-sub-result-2
-sub-result-2 c = search needs
-
 returns : tie.Need-returns
 returns c = let a = c .before .before in rw (c .before .if1 .taken, c .if2 .taken) (nearest-negative (a .args .r) (a .args .b) (a .pre))
 
@@ -23,4 +17,4 @@ returns-4 : tie.Need-returns-4
 returns-4 c = let a = c .before .before in rw (c .before .if1 .left, c .if3 .left) (floor-nonnegative (a .args .r) (a .args .b) (a .pre))
 
 pub rounds-up-spec : {M : Type 1} → statement M
-rounds-up-spec = tie.close (tie.spec sub-result sub-result-2 returns returns-2 returns-3 returns-4)
+rounds-up-spec = tie.close (tie.spec (λ c. search needs) (λ c. search needs) returns returns-2 returns-3 returns-4)

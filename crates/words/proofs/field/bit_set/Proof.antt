@@ -6,13 +6,10 @@ use lib.Dec.{eqb}
 use lib.IntN.{ℤ}
 use Rattle.bits.specs.Division.{modℕ}
 use Rattle.bits.specs.Shift.{shiftRight}
-use Rattle.bits.proofs.WordLaws.{back}
+use Rattle.words.proofs.WordLaws.{back}
 use Rattle.words.proofs.FieldLaws.{one-bit}
 use Rattle.words.proofs.field.bit_set.Statement.{statement}
 use Rattle.words.proofs.field.bit_set.Tie as tie
-
-bits-from-requires : tie.Need-bits-from-requires
-bits-from-requires c κs = search needs
 
 returns : tie.Need-returns
 returns c =
@@ -21,4 +18,4 @@ returns c =
     ∙ one-bit (c .before .args .x) (c .before .args .k)
 
 pub bit-set-spec : {M : Type 1} → statement M
-bit-set-spec = tie.close (tie.spec bits-from-requires returns)
+bit-set-spec = tie.close (tie.spec (λ c κs. search needs) returns)

@@ -9,18 +9,6 @@ use Rattle.words.proofs.FieldLaws.{together, magnitude-shiftRight}
 use Rattle.words.proofs.field.bits_from.Statement.{statement}
 use Rattle.words.proofs.field.bits_from.Tie as tie
 
-is-negative-requires : tie.Need-is-negative-requires
-is-negative-requires c κs = search needs
-
-magnitude-requires : tie.Need-magnitude-requires
-magnitude-requires c κs = search needs
-
-shr-signed-low : tie.Need-shr-signed-low
-shr-signed-low c = search needs
-
-signed-low-requires : tie.Need-signed-low-requires
-signed-low-requires c κs = search needs
-
 returns : tie.Need-returns
 returns c =
     let b = c .before .before .before in
@@ -31,4 +19,4 @@ returns c =
     (together (b .fits .x) (c .before .before .is-negative .ensures) (c .before .magnitude .ensures)))
 
 pub bits-from-spec : {M : Type 1} → statement M
-bits-from-spec = tie.close (tie.spec is-negative-requires magnitude-requires shr-signed-low signed-low-requires returns)
+bits-from-spec = tie.close (tie.spec (λ c κs. search needs) (λ c κs. search needs) (λ c. search needs) (λ c κs. search needs) returns)

@@ -5,30 +5,15 @@ use native.Mathlib.Omega.{arith}
 use mathlib.Core.Path.{_≡_, ap, _∙_}
 use Prim.Native.Nat.{ℕ, _+_, _*_, _-_, _%_, _<_, _^_}
 use lib.IntN.{ℤ, pos}
-use Rattle.bits.specs.Sign.{ofMagnitude}
+use Rattle.words.specs.Sign.{ofMagnitude}
 use Rattle.bits.specs.Field.{copyBitField}
-use Rattle.bits.proofs.WordLaws.{back}
+use Rattle.words.proofs.WordLaws.{back}
 use Rattle.words.proofs.FieldLaws.{together, magnitude-lt, replaced, replaced-lt}
 use Rattle.words.proofs.field.copy_bit_field.Statement.{statement}
 use Rattle.words.proofs.field.copy_bit_field.Tie as tie
 
-is-negative-requires : tie.Need-is-negative-requires
-is-negative-requires c κs = search needs
-
-magnitude-requires : tie.Need-magnitude-requires
-magnitude-requires c κs = search needs
-
-low-requires : tie.Need-low-requires
-low-requires c κs = search needs
-
 sub-above : tie.Need-sub-above
 sub-above c = omega (arith, c .low .ensures, mod-le (c .before .magnitude .result) (2 ^ c .before .before .before .args .end))
-
-sub-signed-low : tie.Need-sub-signed-low
-sub-signed-low c = search needs
-
-signed-low-requires : tie.Need-signed-low-requires
-signed-low-requires c κs = search needs
 
 -- the three parts of the new magnitude
 abbrev total : tie.After-signed-low → ℕ
@@ -47,9 +32,6 @@ shifted-requires c κs = let b = c .before .before .before .before in omega (ari
 
 add-from-magnitude : tie.Need-add-from-magnitude
 add-from-magnitude c = omega (arith, c .shifted .ensures, c .before .before .low .ensures, total-lt (c .before))
-
-low-requires-2 : tie.Need-low-requires-2
-low-requires-2 c κs = search needs
 
 sum : (c : tie.After-low2)
     → c .before .before .before .before .magnitude .result - c .before .before .before .low .result + c .before .shifted .result + c .low2 .result
@@ -76,15 +58,15 @@ pub copy-bit-field-spec : {M : Type 1} → statement M
 copy-bit-field-spec =
     tie.close
     (tie.spec
-    is-negative-requires
-    magnitude-requires
-    low-requires
+    (λ c κs. search needs)
+    (λ c κs. search needs)
+    (λ c κs. search needs)
     sub-above
-    sub-signed-low
-    signed-low-requires
+    (λ c. search needs)
+    (λ c κs. search needs)
     shifted-requires
     add-from-magnitude
-    low-requires-2
+    (λ c κs. search needs)
     add-from-magnitude-2
     from-magnitude-requires
     returns)

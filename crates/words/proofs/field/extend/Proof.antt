@@ -7,18 +7,12 @@ use Prim.Native.Nat.{ℕ, _<_, _^_}
 use lib.IntN.{ℤ}
 use lib.Pow.{pow-pos, pow-mono}
 use Rattle.bits.specs.Division.{modℕ}
-use Rattle.bits.specs.Sign.{ofMagnitude}
+use Rattle.words.specs.Sign.{ofMagnitude}
 use Rattle.bits.proofs.ModLaws.{modℕ-lt}
-use Rattle.bits.proofs.FieldWords.{extend-magnitude}
-use Rattle.bits.proofs.WordLaws.{back}
+use Rattle.words.proofs.FieldWords.{extend-magnitude}
+use Rattle.words.proofs.WordLaws.{back}
 use Rattle.words.proofs.field.extend.Statement.{statement}
 use Rattle.words.proofs.field.extend.Tie as tie
-
-low-bits-requires : tie.Need-low-bits-requires
-low-bits-requires c κs = search needs
-
-signed-low-requires : tie.Need-signed-low-requires
-signed-low-requires c κs = search needs
 
 from-magnitude-requires : tie.Need-from-magnitude-requires
 from-magnitude-requires c κs =
@@ -38,4 +32,4 @@ returns c =
     ∙ extend-magnitude (b .args .negative) (b .args .x) (b .args .k)
 
 pub extend-spec : {M : Type 1} → statement M
-extend-spec = tie.close (tie.spec low-bits-requires signed-low-requires from-magnitude-requires returns)
+extend-spec = tie.close (tie.spec (λ c κs. search needs) (λ c κs. search needs) from-magnitude-requires returns)

@@ -8,9 +8,6 @@ use lib.Pow.{pow-pos}
 use Rattle.words.proofs.field.low.Statement.{statement}
 use Rattle.words.proofs.field.low.Tie as tie
 
-power-requires : tie.Need-power-requires
-power-requires c κs = search needs
-
 sub-result : tie.Need-sub-result
 sub-result c = omega (arith, c .power .ensures, pow-pos (c .before .args .k))
 
@@ -18,4 +15,4 @@ returns : tie.Need-returns
 returns c = ap (λ (n : ℕ). bitAnd (c .before .args .v) (n - 1)) (c .power .ensures) ∙ and-mask (c .before .args .v) (c .before .args .k)
 
 pub low-spec : {M : Type 1} → statement M
-low-spec = tie.close (tie.spec power-requires sub-result returns)
+low-spec = tie.close (tie.spec (λ c κs. search needs) sub-result returns)

@@ -5,16 +5,13 @@ use Prim.Native.Nat.{_^_}
 use lib.IntN.{ℤ}
 use Rattle.bits.specs.Division.{modℕ}
 use Rattle.bits.proofs.ShiftLaws.{shiftRight-zero}
-use Rattle.bits.proofs.WordLaws.{back}
+use Rattle.words.proofs.WordLaws.{back}
 use Rattle.words.proofs.field.low_bits.Statement.{statement}
 use Rattle.words.proofs.field.low_bits.Tie as tie
-
-bits-from-requires : tie.Need-bits-from-requires
-bits-from-requires c κs = search needs
 
 returns : tie.Need-returns
 returns c =
     c .bits-from .ensures ∙ ap (λ (x : ℤ). modℕ x (2 ^ c .before .args .size)) (shiftRight-zero _ ∙ back (c .before .fits .x))
 
 pub low-bits-spec : {M : Type 1} → statement M
-low-bits-spec = tie.close (tie.spec bits-from-requires returns)
+low-bits-spec = tie.close (tie.spec (λ c κs. search needs) returns)

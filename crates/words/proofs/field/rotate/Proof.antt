@@ -6,15 +6,9 @@ use mathlib.Core.Path.{sym, ap, subst, _∙_}
 use Prim.Native.Nat.{ℕ, _+_, _*_, _/_, _-_, _<_, _^_}
 use lib.IntN.{pos}
 use lib.Pow.{pow-mono}
-use Rattle.bits.proofs.RotateWords.{rotate-digits, rotate-digits-lt}
+use Rattle.words.proofs.RotateWords.{rotate-digits, rotate-digits-lt}
 use Rattle.words.proofs.field.rotate.Statement.{statement}
 use Rattle.words.proofs.field.rotate.Tie as tie
-
-sub-stay : tie.Need-sub-stay
-sub-stay c = search needs
-
-low-requires : tie.Need-low-requires
-low-requires c κs = search needs
 
 -- the sum is a word
 rotated-lt : (c : tie.After-low)
@@ -28,9 +22,6 @@ rotated-lt c =
 shifted-requires : tie.Need-shifted-requires
 shifted-requires c κs = let p = c .before .pre in omega (arith, p .0, p .1, rotated-lt c)
 
-shr-result : tie.Need-shr-result
-shr-result c = search needs
-
 add-result : tie.Need-add-result
 add-result c = record { fits = omega (arith, c .shifted .ensures, rotated-lt (c .before)) }
 
@@ -42,4 +33,4 @@ returns c =
     ∙ rotate-digits (a .v) (a .size) (a .c) (c .before .before .pre .2) (c .before .before .pre .1)
 
 pub rotate-spec : {M : Type 1} → statement M
-rotate-spec = tie.close (tie.spec sub-stay low-requires shifted-requires shr-result add-result returns)
+rotate-spec = tie.close (tie.spec (λ c. search needs) (λ c κs. search needs) shifted-requires (λ c. search needs) add-result returns)

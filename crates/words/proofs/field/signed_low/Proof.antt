@@ -9,12 +9,6 @@ use Rattle.words.proofs.FieldLaws.{low-negative, low-nonnegative}
 use Rattle.words.proofs.field.signed_low.Statement.{statement}
 use Rattle.words.proofs.field.signed_low.Tie as tie
 
-low-requires : tie.Need-low-requires
-low-requires c κs = search needs
-
-power-requires : tie.Need-power-requires
-power-requires c κs = search needs
-
 sub-result : tie.Need-sub-result
 sub-result c = omega (arith, c .power .ensures, pow-pos (c .before .before .before .args .size))
 
@@ -32,4 +26,4 @@ returns-2 : tie.Need-returns-2
 returns-2 c = c .before .low .ensures ∙ low-nonnegative _ _ (c .if1 .left)
 
 pub signed-low-spec : {M : Type 1} → statement M
-signed-low-spec = tie.close (tie.spec low-requires power-requires sub-result sub-result-2 returns returns-2)
+signed-low-spec = tie.close (tie.spec (λ c κs. search needs) (λ c κs. search needs) sub-result sub-result-2 returns returns-2)

@@ -4,7 +4,7 @@ use native.Mathlib.Omega.{arith}
 use mathlib.Core.Path.{_∙_}
 use mathlib.Core.Bool.{not}
 use mir.Val.{boolByte}
-use Rattle.bits.proofs.WordLaws.{back}
+use Rattle.words.proofs.WordLaws.{back}
 use Rattle.words.proofs.PartLaws.{high-either, one-more, quotient-lt, small-fits}
 use borrow.Author.Needs.{needs}
 use Rattle.words.proofs.parts.high_part.Statement.{statement}
@@ -17,18 +17,6 @@ sum-lt c =
     let e = c .before .before .quotient .ensures in
     let l = quotient-lt (a .args .width) (a .args .s) (a .pre .1) in
     one-more (not (c .absolute-fits .result)) (c .before .before .quotient .result) (omega arith)
-
-quotient-requires : tie.Need-quotient-requires
-quotient-requires c κs = search needs
-
-remainder-requires : tie.Need-remainder-requires
-remainder-requires c κs = search needs
-
-absolute-fits-requires : tie.Need-absolute-fits-requires
-absolute-fits-requires c κs = search needs
-
-cast-from-absolute : tie.Need-cast-from-absolute
-cast-from-absolute c = search needs
 
 add-from-absolute : tie.Need-add-from-absolute
 add-from-absolute c = let l = sum-lt c in record { fits = omega arith }
@@ -48,10 +36,10 @@ pub high-part-spec : {M : Type 1} → statement M
 high-part-spec =
     tie.close
     (tie.spec
-    quotient-requires
-    remainder-requires
-    absolute-fits-requires
-    cast-from-absolute
+    (λ c κs. search needs)
+    (λ c κs. search needs)
+    (λ c κs. search needs)
+    (λ c. search needs)
     add-from-absolute
     from-absolute-requires
     returns)

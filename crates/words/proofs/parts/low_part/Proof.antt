@@ -5,17 +5,11 @@ use native.Mathlib.Nat.{mod-lt}
 use lib.Pow.{pow-pos}
 use lib.IntN.{natAbs}
 use Rattle.words.specs.Wide.{wideValue}
-use Rattle.bits.proofs.WordLaws.{back}
+use Rattle.words.proofs.WordLaws.{back}
 use Rattle.words.proofs.PartLaws.{low-near, low-far, low-far-fits, fits-wider}
 use borrow.Author.Needs.{needs}
 use Rattle.words.proofs.parts.low_part.Statement.{statement}
 use Rattle.words.proofs.parts.low_part.Tie as tie
-
-remainder-requires : tie.Need-remainder-requires
-remainder-requires c κs = search needs
-
-power-requires : tie.Need-power-requires
-power-requires c κs = search needs
 
 sub-rest : tie.Need-sub-rest
 sub-rest c =
@@ -24,9 +18,6 @@ sub-rest c =
     let d = c .power .ensures in
     let l = mod-lt (natAbs (wideValue (a .args .s))) (pow-pos (a .args .width)) in
     omega arith
-
-absolute-fits-requires : tie.Need-absolute-fits-requires
-absolute-fits-requires c κs = search needs
 
 from-absolute-requires : tie.Need-from-absolute-requires
 from-absolute-requires c κs =
@@ -63,10 +54,10 @@ pub low-part-spec : {M : Type 1} → statement M
 low-part-spec =
     tie.close
     (tie.spec
-    remainder-requires
-    power-requires
+    (λ c κs. search needs)
+    (λ c κs. search needs)
     sub-rest
-    absolute-fits-requires
+    (λ c κs. search needs)
     from-absolute-requires
     from-absolute-requires-2
     returns

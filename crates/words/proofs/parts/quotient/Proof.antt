@@ -5,15 +5,6 @@ use borrow.Author.Needs.{needs}
 use Rattle.words.proofs.parts.quotient.Statement.{statement}
 use Rattle.words.proofs.parts.quotient.Tie as tie
 
-sub-result : tie.Need-sub-result
-sub-result c = search needs
-
-shl-result : tie.Need-shl-result
-shl-result c = search needs
-
-shr-result : tie.Need-shr-result
-shr-result c = search needs
-
 add-result : tie.Need-add-result
 add-result c =
     let a = c .before .before in
@@ -25,4 +16,4 @@ returns : tie.Need-returns
 returns c = let a = c .before .before in quotient-word (a .args .width) (a .args .s) (omega arith) (a .pre .1)
 
 pub quotient-spec : {M : Type 1} → statement M
-quotient-spec = tie.close (tie.spec sub-result shl-result shr-result add-result returns)
+quotient-spec = tie.close (tie.spec (λ c. search needs) (λ c. search needs) (λ c. search needs) add-result returns)

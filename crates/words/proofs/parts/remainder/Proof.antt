@@ -8,9 +8,6 @@ use borrow.Author.Needs.{needs}
 use Rattle.words.proofs.parts.remainder.Statement.{statement}
 use Rattle.words.proofs.parts.remainder.Tie as tie
 
-power-requires : tie.Need-power-requires
-power-requires c κs = search needs
-
 rem-result : tie.Need-rem-result
 rem-result c = let e = c .before .power .ensures in omega (arith, pow-pos (c .before .before .args .width))
 
@@ -20,4 +17,4 @@ returns c =
     ap (λ (m : ℕ). a .args .s .low % m) (c .before .power .ensures) ∙ remainder-word (a .args .width) (a .args .s) (omega arith)
 
 pub remainder-spec : {M : Type 1} → statement M
-remainder-spec = tie.close (tie.spec power-requires rem-result returns)
+remainder-spec = tie.close (tie.spec (λ c κs. search needs) rem-result returns)

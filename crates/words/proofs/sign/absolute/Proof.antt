@@ -4,21 +4,15 @@ use native.Mathlib.Omega.{arith}
 use borrow.Author.Needs.{needs}
 use Prim.Native.Nat.{_+_, _<_, _^_}
 use lib.Signed.{mag}
-use Rattle.bits.proofs.WordLaws.{back, is-negative, natAbs-negative, natAbs-nonnegative}
+use Rattle.words.proofs.WordLaws.{back, is-negative, natAbs-negative, natAbs-nonnegative}
 use Rattle.words.proofs.sign.absolute.Statement.{statement}
 use Rattle.words.proofs.sign.absolute.Tie as tie
-
-magnitude-requires : tie.Need-magnitude-requires
-magnitude-requires c κs = search needs
 
 add-result : tie.Need-add-result
 add-result c =
     let e : c .magnitude .result ≡ mag (c .before .before .args .x) = c .magnitude .ensures ∙ ap mag (back (c .before .before .fits .x)) in
     let h : mag (c .before .before .args .x) < 2 ^ 63 = c .before .before .fits .x .sfits in
     omega arith
-
-magnitude-requires-2 : tie.Need-magnitude-requires-2
-magnitude-requires-2 c κs = search needs
 
 returns : tie.Need-returns
 returns c =
@@ -32,4 +26,4 @@ returns-2 c =
     ∙ sym (natAbs-nonnegative _ (sym (is-negative (c .before .before .fits .x)) ∙ c .before .if1 .left))
 
 pub absolute-spec : {M : Type 1} → statement M
-absolute-spec = tie.close (tie.spec magnitude-requires add-result magnitude-requires-2 returns returns-2)
+absolute-spec = tie.close (tie.spec (λ c κs. search needs) add-result (λ c κs. search needs) returns returns-2)

@@ -8,9 +8,9 @@ use lib.Pow.{pow-mono}
 use mir.Val.{boolByte}
 use borrow.Author.Needs.{needs}
 use borrow.Author.Tests.{leb-true, leb-false, lt-ltb, le-ltb}
-use Rattle.bits.specs.Sign.{withSign}
+use Rattle.words.specs.Sign.{withSign}
 use Rattle.bits.specs.Testbit.{fits}
-use Rattle.bits.proofs.WordLaws.{fits-negative, fits-nonnegative}
+use Rattle.words.proofs.WordLaws.{fits-negative, fits-nonnegative}
 use Rattle.words.proofs.sign.absolute_fits.Statement.{statement}
 use Rattle.words.proofs.sign.absolute_fits.Tie as tie
 
@@ -29,15 +29,6 @@ one-more : (negative : Bool) (w : ℕ) → w ≤ 64 → 2 ^ (w - 1) + boolByte n
 one-more true w h = let p = pow-mono {i = w - 1} {j = 63} (omega arith) in omega arith
 one-more false w h = let p = pow-mono {i = w - 1} {j = 63} (omega arith) in omega arith
 
-sub-power : tie.Need-sub-power
-sub-power c = search needs
-
-power-requires : tie.Need-power-requires
-power-requires c κs = search needs
-
-cast-result : tie.Need-cast-result
-cast-result c = search needs
-
 add-result : tie.Need-add-result
 add-result c =
     let a = c .before in
@@ -49,4 +40,4 @@ returns c =
     ap (λ (p : ℕ). ltb (a .n) (p + boolByte (a .negative))) (c .power .ensures) ∙ test (a .negative) (a .width) (a .n)
 
 pub absolute-fits-spec : {M : Type 1} → statement M
-absolute-fits-spec = tie.close (tie.spec sub-power power-requires cast-result add-result returns)
+absolute-fits-spec = tie.close (tie.spec (λ c. search needs) (λ c κs. search needs) (λ c. search needs) add-result returns)

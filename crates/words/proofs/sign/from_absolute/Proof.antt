@@ -5,12 +5,9 @@ use borrow.Author.Needs.{needs}
 use Prim.Native.Nat.{ℕ, _<_, _^_}
 use lib.IntN.{ℤ}
 use Rattle.bits.specs.Testbit.{fits}
-use Rattle.bits.proofs.WordLaws.{back, sign-zero, sign-negative, sign-nonnegative, fits-mag, mag-ofMagnitude}
+use Rattle.words.proofs.WordLaws.{back, sign-zero, sign-negative, sign-nonnegative, fits-mag, mag-ofMagnitude}
 use Rattle.words.proofs.sign.from_absolute.Statement.{statement}
 use Rattle.words.proofs.sign.from_absolute.Tie as tie
-
-sub-from-magnitude : tie.Need-sub-from-magnitude
-sub-from-magnitude c = search needs
 
 from-magnitude-requires : tie.Need-from-magnitude-requires
 from-magnitude-requires c κs =
@@ -37,7 +34,7 @@ pub from-absolute-spec : {M : Type 1} → statement M
 from-absolute-spec =
     tie.close
     (tie.spec
-    sub-from-magnitude
+    (λ c. search needs)
     from-magnitude-requires
     from-magnitude-requires-2
     returns

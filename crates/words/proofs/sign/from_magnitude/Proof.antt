@@ -5,17 +5,11 @@ use borrow.Author.Needs.{needs}
 use lib.IntN.{pos}
 use mir.Syntax.{w64}
 use mir.ValLaws.{toZ-pos}
-use Rattle.bits.specs.Sign.{ofMagnitude}
+use Rattle.words.specs.Sign.{ofMagnitude}
 use Rattle.bits.specs.Logical.{bitwiseNot}
-use Rattle.bits.proofs.WordLaws.{not-word}
+use Rattle.words.proofs.WordLaws.{not-word}
 use Rattle.words.proofs.sign.from_magnitude.Statement.{statement}
 use Rattle.words.proofs.sign.from_magnitude.Tie as tie
-
-cast-result : tie.Need-cast-result
-cast-result c = search needs
-
-cast-result-2 : tie.Need-cast-result-2
-cast-result-2 c = search needs
 
 returns : tie.Need-returns
 unfolding ofMagnitude bitwiseNot
@@ -29,4 +23,4 @@ returns-2 c =
     toZ-pos w64 (c .before .args .m) (c .before .pre) ∙ sym (ap (λ (b : Bool). ofMagnitude b (c .before .args .m)) (c .if1 .left))
 
 pub from-magnitude-spec : {M : Type 1} → statement M
-from-magnitude-spec = tie.close (tie.spec cast-result cast-result-2 returns returns-2)
+from-magnitude-spec = tie.close (tie.spec (λ c. search needs) (λ c. search needs) returns returns-2)

@@ -1,5 +1,5 @@
 -- `words::sign::is_negative` meets its contract. Assumes nothing.
-use Rattle.bits.proofs.WordLaws as laws
+use Rattle.words.proofs.WordLaws as laws
 use Rattle.words.proofs.sign.is_negative.Statement.{statement}
 use Rattle.words.proofs.sign.is_negative.Tie as tie
 

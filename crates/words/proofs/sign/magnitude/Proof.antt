@@ -5,7 +5,7 @@ use lib.IntN.{pos, natAbs}
 use lib.Signed.{mag}
 use mir.Syntax.{w64}
 use mir.Val.{toZ, ofZ}
-use Rattle.bits.proofs.WordLaws.{back, is-negative, not-word, negative-mag, nonnegative-mag, cast-word}
+use Rattle.words.proofs.WordLaws.{back, is-negative, not-word, negative-mag, nonnegative-mag, cast-word}
 use Rattle.words.proofs.sign.magnitude.Statement.{statement}
 use Rattle.words.proofs.sign.magnitude.Tie as tie
 

@@ -2,18 +2,12 @@
 use mathlib.Core.Path.{ap, _∙_}
 use mathlib.Core.Bool.{Bool}
 use lib.IntN.{_+ℤ_}
-use Rattle.bits.specs.Sign.{withSign}
+use Rattle.words.specs.Sign.{withSign}
 use Rattle.words.specs.Wide.{wideValue}
 use Rattle.words.proofs.SignedLaws.{signs-same, signs-differ}
 use borrow.Author.Needs.{needs}
 use Rattle.words.proofs.wide.add.Statement.{statement}
 use Rattle.words.proofs.wide.add.Tie as tie
-
-grow-requires : tie.Need-grow-requires
-grow-requires c κs = search needs
-
-shrink-requires : tie.Need-shrink-requires
-shrink-requires c κs = search needs
 
 returns : tie.Need-returns
 returns c =
@@ -26,4 +20,4 @@ returns-2 c =
     c .before .before .shrink .ensures ∙ ap (λ (b : Bool). wideValue (a .s) +ℤ withSign b (a .n)) (signs-differ (a .s .negative) (a .negative) (c .if1 .left))
 
 pub add-spec : {M : Type 1} → statement M
-add-spec = tie.close (tie.spec grow-requires shrink-requires returns returns-2)
+add-spec = tie.close (tie.spec (λ c κs. search needs) (λ c κs. search needs) returns returns-2)

@@ -3,7 +3,7 @@ use mathlib.Core.Path.{_≡_, refl, ap, _∙_}
 use mathlib.Core.Bool.{Bool, true, false, not, cond, Bool·beq}
 use Prim.Native.Nat.{ℕ}
 use lib.IntN.{ℤ, negℤ, _+ℤ_, _-ℤ_}
-use Rattle.bits.specs.Sign.{withSign}
+use Rattle.words.specs.Sign.{withSign}
 use Rattle.words.specs.Wide.{wideValue}
 use Rattle.words.proofs.SignedLaws.{withSign-not, rejoin}
 use borrow.Author.Needs.{needs}
@@ -24,15 +24,6 @@ turned false negative n s x e = ap (λ (y : ℤ). s +ℤ y) (keep negative ∙ e
     keep true = refl
     keep false = refl
 
-is-negative-requires : tie.Need-is-negative-requires
-is-negative-requires c κs = search needs
-
-absolute-requires : tie.Need-absolute-requires
-absolute-requires c κs = search needs
-
-add-requires : tie.Need-add-requires
-add-requires c κs = search needs
-
 returns : tie.Need-returns
 returns c =
     let a = c .before .before .before in
@@ -40,4 +31,4 @@ returns c =
     ∙ turned (a .args .minus) _ _ (wideValue (a .args .s)) (a .args .x) (rejoin (a .fits .x) (c .before .before .is-negative .ensures) (c .before .absolute .ensures))
 
 pub add-word-spec : {M : Type 1} → statement M
-add-word-spec = tie.close (tie.spec is-negative-requires absolute-requires add-requires returns)
+add-word-spec = tie.close (tie.spec (λ c κs. search needs) (λ c κs. search needs) (λ c κs. search needs) returns)

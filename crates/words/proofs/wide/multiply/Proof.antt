@@ -2,7 +2,7 @@
 use mathlib.Core.Path.{ap}
 use native.Mathlib.Omega.{arith}
 use borrow.Author.Needs.{needs}
-use Rattle.bits.specs.Sign.{withSign}
+use Rattle.words.specs.Sign.{withSign}
 use Rattle.words.specs.Wide.{wideValue}
 use Rattle.words.proofs.Columns.{Halves, word-halves, columns-product}
 use Rattle.words.proofs.wide.multiply.Statement.{statement}
@@ -35,12 +35,6 @@ add-t13 c = record { fits = omega (arith, known c) }
 add-t15 : tie.Need-add-t15
 add-t15 c = record { fits = omega (arith, known c) }
 
-mul-t17 : tie.Need-mul-t17
-mul-t17 c = search needs
-
-add-t19 : tie.Need-add-t19
-add-t19 c = search needs
-
 returns : tie.Need-returns
 unfolding wideValue
 returns c = ap (withSign (c .args .negative)) (columns-product (c .args .a) (c .args .b))
@@ -57,6 +51,6 @@ multiply-spec =
     mul-t11
     add-t13
     add-t15
-    mul-t17
-    add-t19
+    (λ c. search needs)
+    (λ c. search needs)
     returns)

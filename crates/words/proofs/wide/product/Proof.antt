@@ -7,21 +7,6 @@ use Rattle.words.proofs.SignedLaws.{withSign-mul, rejoin}
 use Rattle.words.proofs.wide.product.Statement.{statement}
 use Rattle.words.proofs.wide.product.Tie as tie
 
-is-negative-requires : tie.Need-is-negative-requires
-is-negative-requires c κs = search needs
-
-is-negative-requires-2 : tie.Need-is-negative-requires-2
-is-negative-requires-2 c κs = search needs
-
-absolute-requires : tie.Need-absolute-requires
-absolute-requires c κs = search needs
-
-absolute-requires-2 : tie.Need-absolute-requires-2
-absolute-requires-2 c κs = search needs
-
-multiply-requires : tie.Need-multiply-requires
-multiply-requires c κs = search needs
-
 returns : tie.Need-returns
 unfolding xor
 returns c =
@@ -36,9 +21,9 @@ pub product-spec : {M : Type 1} → statement M
 product-spec =
     tie.close
     (tie.spec
-    is-negative-requires
-    is-negative-requires-2
-    absolute-requires
-    absolute-requires-2
-    multiply-requires
+    (λ c κs. search needs)
+    (λ c κs. search needs)
+    (λ c κs. search needs)
+    (λ c κs. search needs)
+    (λ c κs. search needs)
     returns)

@@ -6,21 +6,6 @@ use borrow.Author.Needs.{needs}
 use Rattle.words.proofs.wide.shrink.Statement.{statement}
 use Rattle.words.proofs.wide.shrink.Tie as tie
 
-sub-t9 : tie.Need-sub-t9
-sub-t9 c = search needs
-
-sub-t10 : tie.Need-sub-t10
-sub-t10 c = search needs
-
-sub-t11 : tie.Need-sub-t11
-sub-t11 c = search needs
-
-sub-t12 : tie.Need-sub-t12
-sub-t12 c = search needs
-
-sub-t13 : tie.Need-sub-t13
-sub-t13 c = search needs
-
 returns : tie.Need-returns
 unfolding wideValue
 returns c = sum-less _ _ _ _ (omega arith)
@@ -35,4 +20,4 @@ returns-3 c = sum-less _ _ _ _ (lend _ _ _ (omega arith) (omega arith) (omega ar
 
 pub shrink-spec : {M : Type 1} → statement M
 shrink-spec =
-    tie.close (tie.spec sub-t9 sub-t10 sub-t11 sub-t12 sub-t13 returns returns-2 returns-3)
+    tie.close (tie.spec (λ c. search needs) (λ c. search needs) (λ c. search needs) (λ c. search needs) (λ c. search needs) returns returns-2 returns-3)

@@ -6,15 +6,9 @@ use Rattle.words.proofs.WideLaws.{one-word}
 use Rattle.words.proofs.wide.widen.Statement.{statement}
 use Rattle.words.proofs.wide.widen.Tie as tie
 
-is-negative-requires : tie.Need-is-negative-requires
-is-negative-requires c κs = search needs
-
-absolute-requires : tie.Need-absolute-requires
-absolute-requires c κs = search needs
-
 returns : tie.Need-returns
 returns c =
     sym (one-word _ refl) ∙ rejoin (c .before .before .fits .x) (c .before .is-negative .ensures) (c .absolute .ensures)
 
 pub widen-spec : {M : Type 1} → statement M
-widen-spec = tie.close (tie.spec is-negative-requires absolute-requires returns)
+widen-spec = tie.close (tie.spec (λ c κs. search needs) (λ c κs. search needs) returns)

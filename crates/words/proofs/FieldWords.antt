@@ -3,28 +3,28 @@
 use mathlib.Core.Path.{_≡_, refl, sym, _∙_, ap, subst}
 use mathlib.Core.Bool.{Bool, true, false, not, cond, _&&_}
 use Prim.Native.Nat.{ℕ, suc, _+_, _*_, _-_, _/_, _%_, _^_, _≤_, _<_}
-use native.Mathlib.Nat.{mod-lt, lt-of-lt-of-le}
+use native.Mathlib.Nat.{mod-lt}
 use native.Mathlib.Omega.{arith}
 use lib.Arith.{digits-lt}
 use lib.Dec.{ltb, eqb, lt→ltb}
-use lib.Pow.{pow-pos, pow-add, pow-mono, low, high}
+use lib.Pow.{pow-pos, pow-add, low, high}
 use lib.IntN.{ℤ, pos, negsuc}
 use lib.Signed.{mag}
 use borrow.Author.Tests.{lt-ltb, eq-eqb, ne-eqb}
 use Rattle.bits.specs.Testbit.{odd, testbit, fits, fill, ofBits}
-use Rattle.bits.specs.Sign.{ofMagnitude}
+use Rattle.words.specs.Sign.{ofMagnitude}
 use Rattle.bits.specs.Logical.{bitwiseNot}
 use Rattle.bits.specs.Shift.{floorDiv, shiftRight}
 use Rattle.bits.specs.Division.{modℕ, mod0}
-use Rattle.bits.specs.Field.{inField, setField, copyBitField, copyBit}
+use Rattle.bits.specs.Field.{inField, copyBitField, copyBit}
 use Rattle.bits.proofs.Booleans.{all₂}
-use Rattle.bits.proofs.TestbitLaws.{by-lt, testbit-ext, testbit-fill, testbit-ofBits, testbit-mag-lt, testbit-shiftRight}
+use Rattle.bits.proofs.TestbitLaws.{by-lt, testbit-ext, testbit-fill, testbit-ofBits, testbit-shiftRight}
 use Rattle.bits.proofs.LogicalLaws.{testbit-not}
-use Rattle.bits.proofs.LengthLaws.{bitLength-least-bits, mag-lt}
 use Rattle.bits.proofs.ModLaws.{modℕ-lt, modℕ-small}
 use Rattle.bits.proofs.ValueLaws.{ofBits-modℕ, testbit-modℕ-pow, testbit-mod0-pow, mod0-pow-same}
-use Rattle.bits.proofs.FieldLaws.{inField-true, inField-lt, inField-ge, testbit-copyBitField, testbit-copyBit, testbit-setField-out, isNegative-setField}
+use Rattle.bits.proofs.FieldLaws.{inField-true, inField-lt, inField-ge, testbit-copyBitField, testbit-copyBit}
+use Rattle.bits.proofs.LengthBounds.{setField-lt}
 use Rattle.bits.proofs.FieldAlgebra.{setField-ext, copyBitField-not}
 
 -- ---- bits of remainders, quotients and two digits
 
@@ -112,15 +112,6 @@ copyBitField-magnitude true m start end y h =
     (copyBitField-digits m start end (modℕ (negsuc y) (2 ^ (end - start))) h (modℕ-lt (negsuc y) (2 ^ (end - start)) (pow-pos (end - start)))
     ∙ sym (copyBitField-low (pos m) start end (negsuc y)))
     ∙ sym (copyBitField-not (pos m) start end (negsuc y))
-
--- a magnitude below a power of two stays below it, where the field is
-pub setField-lt : (x : ℤ) (start end : ℕ) (g : ℕ → Bool) (k : ℕ) → end ≤ k → mag x < 2 ^ k → mag (setField x start end g) < 2 ^ k
-setField-lt x start end g k h l =
-    mag-lt (setField x start end g) k
-    (bitLength-least-bits (setField x start end g) k
-    (λ i u. testbit-setField-out x start end g i (inField-ge start end i (omega arith))
-    ∙ testbit-mag-lt x i (lt-of-lt-of-le l (pow-mono u))
-    ∙ sym (isNegative-setField x start end g)))
 
 -- ---- the highest bit of a width replaced, which is the sign
 

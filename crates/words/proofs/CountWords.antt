@@ -9,15 +9,15 @@ use lib.Count.{ones-step, ones-le, leading-length, under}
 use lib.IntN.{ℤ, pos, negsuc, natAbs}
 use lib.Pow.{pow-mono}
 use lib.Signed.{mag}
 use Rattle.bits.specs.Testbit.{isNegative, testbit, bitLength}
-use Rattle.bits.specs.Sign.{ofMagnitude}
+use Rattle.words.specs.Sign.{ofMagnitude}
 use Rattle.bits.specs.Logical.{bitwiseNot}
 use Rattle.bits.specs.Shift.{floorDiv}
 use Rattle.bits.specs.Count.{onesBelow, ones, bitCount, firstBitSet}
 use Rattle.bits.proofs.TestbitLaws.{testbit-half, mag-lt-bitLength}
 use Rattle.bits.proofs.CountLaws.{onesBelow-split, onesBelow-ext, ones-onesBelow, firstBitSet-unique}
 use Rattle.bits.proofs.LengthLaws.{bitLength-unique}
-use Rattle.bits.proofs.Digitwise.{digit-testbit}
+use Rattle.words.proofs.Digitwise.{digit-testbit}
 
 -- ---- the ones
 

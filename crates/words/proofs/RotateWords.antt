@@ -7,17 +7,17 @@ use native.Mathlib.Omega.{arith}
 use lib.Pow.{pow-pos, pow-mono, shr-lt}
 use lib.IntN.{ℤ, pos}
 use borrow.Author.Tests.{lt-ltb}
 use Rattle.bits.specs.Testbit.{isNegative, testbit}
 use Rattle.bits.specs.Shift.{shiftRight}
 use Rattle.bits.specs.Division.{modℕ, «mod»}
 use Rattle.bits.specs.Field.{bitField, copyBitField, permuteField, rotateIndex, reverseIndex, rotateBitField, reverseBitField}
 use Rattle.bits.proofs.IntegerLaws.{pos-sub-lt, pos-sub-ge}
 use Rattle.bits.proofs.TestbitLaws.{by-lt, testbit-ext, testbit-mag-lt}
 use Rattle.bits.proofs.ValueLaws.{bitField-value}
 use Rattle.bits.proofs.FieldLaws.{inField-ge, testbit-bitField, testbit-permuteField-in, testbit-permuteField-out}
 use Rattle.bits.proofs.FieldAlgebra.{setField-ext}
 use Rattle.bits.proofs.RotateLaws.{rotateIndex-lt, reverseIndex-lt}
-use Rattle.bits.proofs.FieldWords.{testbit-mod-lt, testbit-div, testbit-digits, digits-lt-pow}
+use Rattle.words.proofs.FieldWords.{testbit-mod-lt, testbit-div, testbit-digits, digits-lt-pow}
 
 -- ---- a permutation of a field, and of the field as a number
 

@@ -12,9 +12,9 @@ use mir.Syntax.{w64}
 use mir.Val.{Fits, SFits, toZ, ofZ}
 use mir.ValLaws.{toZ-ofZ, toZ-pos, toZ-neg}
 use borrow.Author.Tests.{le-ltb, lt-ltb, le-leb, ltb-true}
 use Rattle.bits.specs.Testbit.{isNegative, fits}
-use Rattle.bits.specs.Sign.{withSign, ofMagnitude}
+use Rattle.words.specs.Sign.{withSign, ofMagnitude}
 use Rattle.bits.specs.Logical.{bitwiseNot}
 
 -- the bits of x, read as signed, are x
 pub back : {x : ℤ} → SFits w64 x → toZ w64 (ofZ w64 x) ≡ x

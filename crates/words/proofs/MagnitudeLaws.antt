@@ -5,9 +5,9 @@ use mathlib.Core.Path.{_≡_, refl, sym}
 use mathlib.Core.Bool.{true, false, not, xor}
 use lib.IntN.{ℤ, pos, negsuc}
 use lib.Signed.{mag}
 use Rattle.bits.specs.Testbit.{isNegative, testbit, bitLength}
-use Rattle.bits.specs.Sign.{ofMagnitude}
+use Rattle.words.specs.Sign.{ofMagnitude}
 use Rattle.bits.proofs.Booleans.{all₁}
 
 pub ofMagnitude-mag : (x : ℤ) → ofMagnitude (isNegative x) (mag x) ≡ x
 unfolding ofMagnitude isNegative

@@ -7,12 +7,12 @@ use lib.Bits.{bitAnd, bitOr}
 use lib.Dec.{eqb, ltb}
 use lib.IntN.{pos}
 use borrow.Author.Tests.{ltb-true, eqb-true, eqb-false}
 use Rattle.bits.specs.Testbit.{testbit}
 use Rattle.bits.specs.Shift.{shiftLeft}
 use Rattle.bits.proofs.Booleans.{all₂, all₃, both-left, both-right}
 use Rattle.bits.proofs.ShiftLaws.{testbit-shiftLeft}
-use Rattle.bits.proofs.FieldWords.{testbit-mod-lt, testbit-div}
-use Rattle.bits.proofs.Digitwise.{testbit-digitwise, and-digitwise, ior-digitwise}
+use Rattle.words.proofs.FieldWords.{testbit-mod-lt, testbit-div}
+use Rattle.words.proofs.Digitwise.{testbit-digitwise, and-digitwise, ior-digitwise}
 
 -- ---- a test at every number below n
 

@@ -1,0 +1,4 @@
+pub mod OutcomeLaws
+pub mod PutsLaws
+pub mod BufferLaws
+pub mod Cases
