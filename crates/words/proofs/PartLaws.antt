@@ -8,7 +8,7 @@ use mathlib.Core.Bool.{Bool, true, false, not}
 use lib.Dec.{T, le→leb, lt→ltb}
 use lib.IntN.{ℤ, pos, negsuc, negℤ, natAbs, _+ℤ_, _*ℤ_}
 use lib.Arith.{digits-div, digits-mod}
-use lib.Pow.{pow-pos, pow-mono, pow-add, split, high, shr-lt, shr-shr, ones-lt, ones-split}
+use lib.Pow.{pow-pos, pow-mono, pow-add, split, shr-lt, shr-shr}
 use lib.Signed.{mag, leZ, _≤ℤ_, _<ℤ_, leZ-yes, ltZ-yes, natAbs-le}
 use borrow.Author.Tests.{leb-false, ltb-false, lt-ltb, le-leb}
 use mir.Val.{boolByte}
@@ -173,11 +173,3 @@ quotient-word w s p h k =
     let one : 1 + (w - 1) ≡ w = omega arith in
     ap₂ (λ (m n : ℕ). m + n) (mod-eq-of-lt {n = s .high * 2 ^ (64 - w)} {m = 2 ^ 64} (omega arith)) (shr-shr (s .low) 1 (w - 1) ∙ ap (λ (j : ℕ). s .low / 2 ^ j) one)
     ∙ sym e
-
--- 2^w - 1 is all ones, shifted down
-pub ones-word : (w : ℕ) → w ≤ 64 → (2 ^ 64 - 1) / 2 ^ (64 - w) + 1 ≡ 2 ^ w
-ones-word w h =
-    let e : w + (64 - w) ≡ 64 = omega arith in
-    let d : (2 ^ 64 - 1) / 2 ^ (64 - w) ≡ 2 ^ w - 1 =
-    ap (λ (k : ℕ). (2 ^ k - 1) / 2 ^ (64 - w)) (sym e) ∙ ap (λ (n : ℕ). n / 2 ^ (64 - w)) (ones-split w (64 - w)) ∙ high (2 ^ w - 1) (64 - w) (ones-lt (64 - w)) in
-    omega (arith, pow-pos w)

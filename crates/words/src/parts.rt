@@ -6,6 +6,7 @@ ghost use Rattle.bits.specs.Division.{div0, mod0};
 ghost use Rattle.words.specs.Wide.{wideValue};
 use crate::sign::absolute_fits;
 use crate::sign::from_absolute;
+use crate::sign::power;
 use crate::wide::Wide;
 
 // 2^width - 1. Here and below no branch asks for width 64, where 2^width is no word.
@@ -13,7 +14,8 @@ fn ones(width: u64) -> u64
     requires { ⌜ (1 ≤ width) × (width ≤ 64) ⌝ }
     ensures { λ r. ⌜ r + 1 ≡ 2 ^ width ⌝ }
 {
-    0xFFFF_FFFF_FFFF_FFFF >> (64 - width)
+    let half = power(width - 1);
+    half + (half - 1)
 }
 
 fn remainder(width: u64, s: Wide) -> u64
