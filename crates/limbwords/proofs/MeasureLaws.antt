@@ -71,11 +71,6 @@ module _ (z : ℤ) (k : ℕ) (h : bitLength z < 32 * (k + 2)) where
       go true q = absurd (e (continues (ltb-true (bitLength z) (32 * (k + 1)) q)))
       go false q = omega (arith, ltb-false (bitLength z) (32 * (k + 1)) q)
 
--- one limb is the least
-settled-one : (z : ℤ) → bitLength z < 32 * 1 → limbCount z ≡ 1
-unfolding limbCount
-settled-one z h = omega arith
-
 -- the same, where n limbs are enough
 module _ (z : ℤ) (n : ℕ) (p : 1 < n) (h : bitLength z < 32 * n) where
   two : n - 2 + 2 ≡ n
@@ -96,23 +91,28 @@ module _ (z : ℤ) (n : ℕ) (p : 1 < n) (h : bitLength z < 32 * n) where
   settled-at : (bitsFrom z (32 * (n - 1)) ≡ continued (bitsFrom z (32 * (n - 2))) → ⊥) → n ≡ limbCount z
   settled-at e = sym (settled z (n - 2) enough (λ q. e (ap (λ (k : ℕ). bitsFrom z (32 * k)) (sym one) ∙ q)) ∙ two)
 
--- ---- what is so at each turn of measuring: n limbs are enough, and `high` is the last of them
+-- ---- what is so at each turn of measuring from `enough` limbs downwards: n are enough too, and `high` is the last of them
 
-pub record Enough (z : ℤ) (n high : ℕ) : Type 0 where
+pub record Enough (z : ℤ) (enough n high : ℕ) : Type 0 where
   pub some : 0 < n
+  pub most : n ≤ enough
   pub size : bitLength z < 32 * n
   pub last : high ≡ limbAt z (n - 1)
 
+pub all-enough : {z : ℤ} {enough high : ℕ} → 0 < enough → bitLength z < 32 * enough → high ≡ limbAt z (enough - 1) → Enough z enough enough high
+all-enough p h e = record { some = p; most = omega arith; size = h; last = e }
+
 -- the contract of the code's `is_padding`, of the last limb and the limb below it
-module _ {z : ℤ} {n high low : ℕ} {padding : Bool} (e : Enough z n high) (p : 1 < n) (below : low ≡ limbAt z (n - 2)) (test : padding ≡ eqb high (continued low)) where
+module _ {z : ℤ} {enough n high low : ℕ} {padding : Bool} (e : Enough z enough n high) (p : 1 < n) (below : low ≡ limbAt z (n - 2)) (test : padding ≡ eqb high (continued low)) where
   tested : padding ≡ eqb (limbAt z (n - 1)) (continued (limbAt z (n - 2)))
   tested = cc (test, below, e .last)
 
-  pub one-less : padding ≡ true → Enough z (n - 1) low
+  pub one-less : padding ≡ true → Enough z enough (n - 1) low
   one-less q =
       let same : n - 2 ≡ n - 1 - 1 = omega arith in
       record {
         some = omega arith;
+        most = omega (arith, e .most);
         size = shorter-by-one z n p (e .size) (eqb-true _ _ (sym tested ∙ q));
         last = below ∙ ap (limbAt z) same;
       }
@@ -120,5 +120,12 @@ module _ {z : ℤ} {n high low : ℕ} {padding : Bool} (e : Enough z n high) (p 
   pub counted : padding ≡ false → n ≡ limbCount z
   counted q = settled-at z n p (e .size) (eqb-false _ _ (sym tested ∙ q))
 
-pub counted-one : (z : ℤ) (n : ℕ) → n ≡ 1 → bitLength z < 32 * n → n ≡ limbCount z
-counted-one z n e h = e ∙ sym (settled-one z (omega arith))
+-- one limb is the least
+pub one-limb : (z : ℤ) → bitLength z < 32 * 1 → 1 ≡ limbCount z
+unfolding limbCount
+one-limb z h = omega arith
+
+pub counted-one : {z : ℤ} {enough n high : ℕ} → Enough z enough n high → n ≤ 1 → n ≡ limbCount z
+counted-one {z} {n} e h =
+    let one : n ≡ 1 = omega (arith, e .some) in
+    one ∙ one-limb z (omega (arith, e .size))
