@@ -5,55 +5,50 @@ use mathlib.Core.Path.{_≡_, refl, sym, ap, _∙_}
 use mathlib.Core.Bool.{Bool, true, false, cond, not}
 use lib.Dec.{eqb, ltb, lit<}
 use lib.IntN.{ℤ, pos}
-use borrow.Author.Tests.{lt-ltb, ltb-true, ltb-false, eqb-true, eqb-false}
-use Rattle.bits.specs.Testbit.{isNegative, testbit, bitLength, fill}
-use Rattle.bits.proofs.TestbitLaws.{testbit-above, testbit-fill}
+use borrow.Author.Tests.{ltb-true, ltb-false, eqb-true, eqb-false}
+use Rattle.bits.specs.Testbit.{isNegative, testbit, bitLength}
+use Rattle.bits.proofs.TestbitLaws.{by-lt, testbit-above, testbit-zero}
 use Rattle.bits.proofs.ValueLaws.{testbit-mask}
 use Rattle.bits.proofs.LengthLaws.{bitLength-least-bits}
 use Rattle.limbwords.specs.Value.{bitsFrom, limbAt, limbCount}
 use Rattle.limbwords.specs.Results.{continued}
-use Rattle.limbwords.proofs.LimbLaws.{bitsFrom-lt, testbit-bitsFrom, bitsFrom-above, top-bit}
+use Rattle.limbwords.proofs.LimbLaws.{bitsFrom-lt, testbit-bitsFrom, bitsFrom-above, length-below, top-bit}
 
--- each bit of a continuing limb is the top bit of the limb below it
-ones-bit : (s : Bool) (t : ℕ) → t < 32 → testbit (pos (cond s 0xFFFFFFFF 0)) t ≡ s
-unfolding fill
-ones-bit true t h = testbit-mask 32 t ∙ lt-ltb t 32 h
-ones-bit false t h = testbit-fill false t
+-- the top bit of a continuing limb is that of the limb below it
+top-continued : (s : Bool) → testbit (pos (cond s 0xFFFFFFFF 0)) 31 ≡ s
+top-continued true = testbit-mask 32 31
+top-continued false = testbit-zero 31
 
-module _ (z : ℤ) (k : ℕ) where
-  -- the top bit of limb k, as the test has it
-  top : testbit z (32 * k + 31) ≡ not (ltb (bitsFrom z (32 * k)) 0x80000000)
-  top = sym (testbit-bitsFrom z (32 * k) 31 (lit< tt)) ∙ top-bit (bitsFrom z (32 * k)) (bitsFrom-lt z (32 * k))
-
-  -- where the limb above continues limb k, its bits are all that bit
-  above : bitsFrom z (32 * (k + 1)) ≡ continued (bitsFrom z (32 * k)) → (t : ℕ) → t < 32 → testbit z (32 * (k + 1) + t) ≡ testbit z (32 * k + 31)
-  unfolding continued
-  above e t l =
-      sym (testbit-bitsFrom z (32 * (k + 1)) t l)
-      ∙ ap (λ (n : ℕ). testbit (pos n) t) e
-      ∙ ones-bit (not (ltb (bitsFrom z (32 * k)) 0x80000000)) t l
-      ∙ sym top
+-- the top bit of limb k, as the test has it
+top : (z : ℤ) (k : ℕ) → testbit z (32 * k + 31) ≡ not (ltb (bitsFrom z (32 * k)) 0x80000000)
+top z k = sym (testbit-bitsFrom z (32 * k) 31 (lit< tt)) ∙ top-bit (bitsFrom z (32 * k)) (bitsFrom-lt z (32 * k))
 
 module _ (z : ℤ) (k : ℕ) (h : bitLength z < 32 * (k + 2)) where
-  -- the top limb continues the one below it: it can go
+  -- where the top limb continues limb k, the top bit of limb k is the sign
+  sign : bitsFrom z (32 * (k + 1)) ≡ continued (bitsFrom z (32 * k)) → testbit z (32 * k + 31) ≡ isNegative z
+  unfolding continued
+  sign e =
+      top z k
+      ∙ sym (top-continued (not (ltb (bitsFrom z (32 * k)) 0x80000000)))
+      ∙ ap (λ (n : ℕ). testbit (pos n) 31) (sym e)
+      ∙ testbit-bitsFrom z (32 * (k + 1)) 31 (lit< tt)
+      ∙ testbit-above z (32 * (k + 1) + 31) (omega arith)
+
+  -- and that limb can go
   shorter : bitsFrom z (32 * (k + 1)) ≡ continued (bitsFrom z (32 * k)) → bitLength z < 32 * (k + 1)
+  unfolding continued
   shorter e = omega (arith, bitLength-least-bits z (32 * k + 31) each)
     where
-      sign : testbit z (32 * k + 31) ≡ isNegative z
-      sign = sym (above z k e 31 (lit< tt)) ∙ testbit-above z (32 * (k + 1) + 31) (omega arith)
-
-      in-limb : (i : ℕ) → 32 * (k + 1) ≤ i → i < 32 * (k + 2) → testbit z i ≡ isNegative z
-      in-limb i a b =
-          let q : 32 * (k + 1) + (i - 32 * (k + 1)) ≡ i = omega arith in
-          ap (testbit z) (sym q) ∙ above z k e (i - 32 * (k + 1)) (omega arith) ∙ sign
-
-      by : (i : ℕ) (b c : Bool) → 32 * k + 31 ≤ i → ltb i (32 * (k + 1)) ≡ b → ltb i (32 * (k + 2)) ≡ c → testbit z i ≡ isNegative z
-      by i true c l p q = let r : i ≡ 32 * k + 31 = omega (arith, ltb-true i (32 * (k + 1)) p) in ap (testbit z) r ∙ sign
-      by i false true l p q = in-limb i (ltb-false i (32 * (k + 1)) p) (ltb-true i (32 * (k + 2)) q)
-      by i false false l p q = testbit-above z i (omega (arith, ltb-false i (32 * (k + 2)) q))
+      rest : bitLength z ≤ 32 * (k + 1)
+      rest =
+          length-below z (32 * (k + 1)) (32 * (k + 2)) (omega arith) (omega arith)
+          (e ∙ ap (λ (s : Bool). cond s 0xFFFFFFFF 0) (sym (top z k) ∙ sign e) ∙ sym (bitsFrom-above z (32 * (k + 2)) (omega arith)))
 
       each : (i : ℕ) → 32 * k + 31 ≤ i → testbit z i ≡ isNegative z
-      each i l = by i (ltb i (32 * (k + 1))) (ltb i (32 * (k + 2))) l refl refl
+      each i l =
+          by-lt (λ b. testbit z i ≡ isNegative z) i (32 * (k + 1))
+          (λ u. let r : i ≡ 32 * k + 31 = omega arith in ap (testbit z) r ∙ sign e)
+          (λ u. testbit-above z i (omega (arith, rest)))
 
   -- a length that is shorter by a limb has a top limb that continues the one below it
   continues : bitLength z < 32 * (k + 1) → bitsFrom z (32 * (k + 1)) ≡ continued (bitsFrom z (32 * k))
