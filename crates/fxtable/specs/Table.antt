@@ -1,9 +1,10 @@
 -- 01's table of fixnum operations: for each code the argument counts it allows, the domains of its arguments, the refusal
--- that it gives where the exact first result is no fixnum, and its results.
+-- that it gives where the exact first result is no fixnum (its overflow), and its results.
 --   rows             ==  the rows of codes 1, 2, ..
 --   isCode code      ==  whether the table has the code
 --   rowOf code       ==  the row of a code
-use Prim.Native.Nat.{ℕ, _-_}
+--   signatureOf code ==  what the code says of its arguments and results, as `table::signature_of` answers it
+use Prim.Native.Nat.{ℕ}
 use mathlib.Core.Bool.{Bool, _&&_}
 use mathlib.Core.List.{List, [], _∷_}
 use lib.Dec.{leb}
@@ -16,9 +17,13 @@ use Rattle.bits.specs.Count.{bitCount, firstBitSet}
 use Rattle.bits.specs.Division.{div, «mod», div0, mod0}
 use Rattle.bits.specs.Shift.{arithmeticShift, shiftLeft, shiftRight}
 use Rattle.bits.specs.Field.{bitField, copyBitField, rotateBitField, reverseBitField}
-use Rattle.fixnum.specs.Domains.{arg, Domain, fixnum, divisor, position, fieldEnd, newBit, signedDistance, distance, rotation}
-use Rattle.fixnum.specs.Operations.{
-  Meaning,
+use Rattle.fxtable.specs.declared.domains.Domain.{Domain}
+use Rattle.fxtable.specs.declared.domains.Domain.the-variants.{Fixnum, Divisor, Position, FieldEnd, NewBit, SignedDistance, Distance, Rotation}
+use Rattle.fxtable.specs.declared.table.Signature.{Signature}
+use Rattle.fxtable.specs.Domains.{arg, domainAt}
+use Rattle.fxtable.specs.Operations.{
+  Results,
+  hasTwo,
   every,
   one,
   two,
@@ -42,38 +47,35 @@ use Rattle.fixnum.specs.Operations.{
   copyBitAt,
 }
 
--- The refusal for size: code 15's is 5, an assertion; that of the others 6, a restriction. An operation whose results are always
--- fixnums has none.
-abbrev pub Size : Type 0
-Size = ℕ
-
-abbrev never : Size
+-- The refusal for overflow: code 15's is 5, an assertion; that of the others 6, a restriction. An operation whose results are
+-- always fixnums has none.
+abbrev pub never : ℕ
 never = 0
 
-abbrev assertion : Size
+abbrev pub assertion : ℕ
 assertion = 5
 
-abbrev restriction : Size
+abbrev pub restriction : ℕ
 restriction = 6
 
 pub record Row : Type 0 where
   pub least : ℕ
   pub most : ℕ
   pub domains : List Domain
-  pub size : Size
-  pub results : Meaning
+  pub overflow : ℕ
+  pub results : Results
 
-abbrev pub row : ℕ → ℕ → List Domain → Size → Meaning → Row
-row least most domains size results = record { least = least; most = most; domains = domains; size = size; results = results }
+abbrev pub row : ℕ → ℕ → List Domain → ℕ → Results → Row
+row least most domains overflow results = record { least = least; most = most; domains = domains; overflow = overflow; results = results }
 
 abbrev free : List Domain
 free = []
 
 abbrev divide : List Domain
-divide = fixnum ∷ divisor ∷ []
+divide = Fixnum ∷ Divisor ∷ []
 
 abbrev field : List Domain
-field = fixnum ∷ position ∷ fieldEnd ∷ []
+field = Fixnum ∷ Position ∷ FieldEnd ∷ []
 
 unfoldable pub rows : List Row
 rows =
@@ -109,14 +111,14 @@ rows =
     ∷ row 1 1 free never (one bitCount)  -- 30 fxbit-count
     ∷ row 1 1 free never (one (λ x. pos (bitLength x)))  -- 31 fxlength
     ∷ row 1 1 free never (one firstBitSet)  -- 32 fxfirst-bit-set
-    ∷ row 2 2 (fixnum ∷ position ∷ []) never (question (λ xs. testbit (arg xs 0) (natAbs (arg xs 1))))  -- 33 fxbit-set?
-    ∷ row 3 3 (fixnum ∷ position ∷ newBit ∷ []) never copyBitAt  -- 34 fxcopy-bit
+    ∷ row 2 2 (Fixnum ∷ Position ∷ []) never (question (λ xs. testbit (arg xs 0) (natAbs (arg xs 1))))  -- 33 fxbit-set?
+    ∷ row 3 3 (Fixnum ∷ Position ∷ NewBit ∷ []) never copyBitAt  -- 34 fxcopy-bit
     ∷ row 3 3 field never (three (λ x start end. bitField x (natAbs start) (natAbs end)))  -- 35 fxbit-field
     ∷ row 4 4 field never (four (λ x start end y. copyBitField x (natAbs start) (natAbs end) y))  -- 36 fxcopy-bit-field
-    ∷ row 2 2 (fixnum ∷ signedDistance ∷ []) restriction (two arithmeticShift)  -- 37 fxarithmetic-shift
-    ∷ row 2 2 (fixnum ∷ distance ∷ []) restriction (two (λ x k. shiftLeft x (natAbs k)))  -- 38 fxarithmetic-shift-left
-    ∷ row 2 2 (fixnum ∷ distance ∷ []) never (two (λ x k. shiftRight x (natAbs k)))  -- 39 fxarithmetic-shift-right
-    ∷ row 4 4 (fixnum ∷ position ∷ fieldEnd ∷ rotation ∷ []) never (four (λ x start end c. rotateBitField x (natAbs start) (natAbs end) c))  -- 40 fxrotate-bit-field
+    ∷ row 2 2 (Fixnum ∷ SignedDistance ∷ []) restriction (two arithmeticShift)  -- 37 fxarithmetic-shift
+    ∷ row 2 2 (Fixnum ∷ Distance ∷ []) restriction (two (λ x k. shiftLeft x (natAbs k)))  -- 38 fxarithmetic-shift-left
+    ∷ row 2 2 (Fixnum ∷ Distance ∷ []) never (two (λ x k. shiftRight x (natAbs k)))  -- 39 fxarithmetic-shift-right
+    ∷ row 4 4 (Fixnum ∷ Position ∷ FieldEnd ∷ Rotation ∷ []) never (four (λ x start end c. rotateBitField x (natAbs start) (natAbs end) c))  -- 40 fxrotate-bit-field
     ∷ row 3 3 field never (three (λ x start end. reverseBitField x (natAbs start) (natAbs end)))  -- 41 fxreverse-bit-field
     ∷ []
 
@@ -128,4 +130,12 @@ unfoldable pub noRow : Row
 noRow = row 1 0 free never (every (λ xs. pos 0))
 
 unfoldable pub rowOf : ℕ → Row
-rowOf code = getD rows (code - 1) noRow
+rowOf code = getD (noRow ∷ rows) code noRow
+
+abbrev pub signatureFrom : ℕ → ℕ → Domain → Domain → Domain → Bool → Signature
+signatureFrom least most second third fourth double = record { least = least; most = most; second = second; third = third; fourth = fourth; double = double }
+
+unfoldable pub signatureOf : ℕ → Signature
+signatureOf code =
+    let r = rowOf code in
+    signatureFrom (r .least) (r .most) (domainAt (r .domains) 1) (domainAt (r .domains) 2) (domainAt (r .domains) 3) (hasTwo (r .results))

@@ -1,15 +1,17 @@
--- What the operations answer: two results, from the width and the list of the arguments.
---   one, two, three, four f    ==  f of so many arguments; the second result is 0
---   every f                    ==  f of all arguments; the second result is 0
+-- What the operations answer, from the width and the list of the arguments.
+--   single f, double f         ==  one result, and 0 as the second; two results
+--   resultsOf r, hasTwo r      ==  both results; whether there are two
+--   every f                    ==  f of all arguments
+--   one, two, three, four f    ==  f of so many arguments
 --   question p                 ==  1 where p holds of the arguments, else 0
 --   pair f g                   ==  f and g of two arguments, as the two results
 --   chain r xs                 ==  whether each argument stands in the relation r to the next
 --   foldFrom f x ys            ==  f of x and the first of ys, then f of that and the second, ..
 --   minus xs                   ==  -x of one argument, x - y of two
---   carry f                    ==  s mod0 2^w and s div0 2^w, where s is f of three arguments
+--   partsOf w s, carry f       ==  s mod0 2^w and s div0 2^w; those of s = f of three arguments
 --   copyBitAt                  ==  copy-bit, whose result is taken mod0 2^w: position w - 1 is the sign
 use Prim.Native.Nat.{ℕ, _^_}
-use mathlib.Core.Bool.{Bool, true, cond, not, _&&_}
+use mathlib.Core.Bool.{Bool, true, false, cond, not, _&&_}
 use mathlib.Core.List.{List, [], _∷_}
 use lib.Dec.{eqb}
 use lib.IntN.{ℤ, pos, negℤ, natAbs, _-ℤ_}
@@ -17,34 +19,43 @@ use lib.Signed.{leZ, ltZ}
 use Rattle.bits.specs.Testbit.{odd}
 use Rattle.bits.specs.Division.{div0, mod0}
 use Rattle.bits.specs.Field.{copyBit}
-use Rattle.fixnum.specs.Domains.{arg}
+use Rattle.fxtable.specs.Domains.{arg}
 
-abbrev pub Meaning : Type 0
-Meaning = ℕ → List ℤ → ℤ × ℤ
+pub data Results : Type 0 where
+  single : (ℕ → List ℤ → ℤ) → Results
+  double : (ℕ → List ℤ → ℤ × ℤ) → Results
 
-unfoldable pub every : (List ℤ → ℤ) → Meaning
-every f w xs = (f xs, pos 0)
+unfoldable pub resultsOf : Results → ℕ → List ℤ → ℤ × ℤ
+resultsOf (single f) w xs = (f w xs, pos 0)
+resultsOf (double f) w xs = f w xs
 
-unfoldable pub one : (ℤ → ℤ) → Meaning
-one f w xs = (f (arg xs 0), pos 0)
+unfoldable pub hasTwo : Results → Bool
+hasTwo (single f) = false
+hasTwo (double f) = true
 
-unfoldable pub two : (ℤ → ℤ → ℤ) → Meaning
-two f w xs = (f (arg xs 0) (arg xs 1), pos 0)
+abbrev pub every : (List ℤ → ℤ) → Results
+every f = single (λ w xs. f xs)
 
-unfoldable pub three : (ℤ → ℤ → ℤ → ℤ) → Meaning
-three f w xs = (f (arg xs 0) (arg xs 1) (arg xs 2), pos 0)
+abbrev pub one : (ℤ → ℤ) → Results
+one f = every (λ xs. f (arg xs 0))
 
-unfoldable pub four : (ℤ → ℤ → ℤ → ℤ → ℤ) → Meaning
-four f w xs = (f (arg xs 0) (arg xs 1) (arg xs 2) (arg xs 3), pos 0)
+abbrev pub two : (ℤ → ℤ → ℤ) → Results
+two f = every (λ xs. f (arg xs 0) (arg xs 1))
 
-unfoldable pub pair : (ℤ → ℤ → ℤ) → (ℤ → ℤ → ℤ) → Meaning
-pair f g w xs = (f (arg xs 0) (arg xs 1), g (arg xs 0) (arg xs 1))
+abbrev pub three : (ℤ → ℤ → ℤ → ℤ) → Results
+three f = every (λ xs. f (arg xs 0) (arg xs 1) (arg xs 2))
+
+abbrev pub four : (ℤ → ℤ → ℤ → ℤ → ℤ) → Results
+four f = every (λ xs. f (arg xs 0) (arg xs 1) (arg xs 2) (arg xs 3))
+
+abbrev pub pair : (ℤ → ℤ → ℤ) → (ℤ → ℤ → ℤ) → Results
+pair f g = double (λ w xs. (f (arg xs 0) (arg xs 1), g (arg xs 0) (arg xs 1)))
 
 unfoldable pub truth : Bool → ℤ
 truth b = cond b (pos 1) (pos 0)
 
-unfoldable pub question : (List ℤ → Bool) → Meaning
-question p w xs = (truth (p xs), pos 0)
+abbrev pub question : (List ℤ → Bool) → Results
+question p = every (λ xs. truth (p xs))
 
 -- ---- comparisons
 
@@ -105,9 +116,11 @@ minus [] = pos 0
 minus (x ∷ []) = negℤ x
 minus (x ∷ y ∷ ys) = x -ℤ y
 
-unfoldable pub carry : (ℤ → ℤ → ℤ → ℤ) → Meaning
-carry f w xs =
-    (mod0 (f (arg xs 0) (arg xs 1) (arg xs 2)) (pos (2 ^ w)), div0 (f (arg xs 0) (arg xs 1) (arg xs 2)) (pos (2 ^ w)))
+unfoldable pub partsOf : ℕ → ℤ → ℤ × ℤ
+partsOf w s = (mod0 s (pos (2 ^ w)), div0 s (pos (2 ^ w)))
 
-unfoldable pub copyBitAt : Meaning
-copyBitAt w xs = (mod0 (copyBit (arg xs 0) (natAbs (arg xs 1)) (arg xs 2)) (pos (2 ^ w)), pos 0)
+abbrev pub carry : (ℤ → ℤ → ℤ → ℤ) → Results
+carry f = double (λ w xs. partsOf w (f (arg xs 0) (arg xs 1) (arg xs 2)))
+
+abbrev pub copyBitAt : Results
+copyBitAt = single (λ w xs. mod0 (copyBit (arg xs 0) (natAbs (arg xs 1)) (arg xs 2)) (pos (2 ^ w)))

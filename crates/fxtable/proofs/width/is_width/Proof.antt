@@ -1,10 +1,10 @@
--- `fixnum::width::is_width` meets its contract. Assumes nothing.
+-- `fxtable::width::is_width` meets its contract. Assumes nothing.
 use lib.Dec.{leb}
 use borrow.Author.Tests.{le-leb, lt-leb}
-use Rattle.fixnum.specs.Domains.{isWidth, leastWidth, largestWidth}
+use Rattle.fxtable.specs.Domains.{isWidth, leastWidth, largestWidth}
 use Rattle.bits.proofs.Booleans.{and-first, and-second}
-use Rattle.fixnum.proofs.width.is_width.Statement.{statement}
-use Rattle.fixnum.proofs.width.is_width.Tie as tie
+use Rattle.fxtable.proofs.width.is_width.Statement.{statement}
+use Rattle.fxtable.proofs.width.is_width.Tie as tie
 
 returns : tie.Need-returns
 unfolding isWidth leastWidth largestWidth

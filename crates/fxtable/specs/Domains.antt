@@ -2,7 +2,8 @@
 --   isWidth w               ==  24 <= w <= 62
 --   arg xs i                ==  argument i of xs, from 0
 --   accepts d w xs x        ==  whether x, an argument of xs at width w, lies in the domain d
---   inDomains ds w xs       ==  whether each argument lies in its domain; ds may be shorter than xs
+--   domainAt ds i           ==  the domain of argument i: any fixnum where ds is shorter
+--   inDomains ds w xs       ==  whether each argument lies in its domain
 -- A field's start is argument 1 and its end argument 2.
 use Prim.Native.Nat.{ℕ, suc, _-_}
 use mathlib.Core.Bool.{Bool, true, _&&_}
@@ -12,6 +13,8 @@ use lib.IntN.{ℤ, pos, negℤ, natAbs, _-ℤ_}
 use lib.ListN.{getD}
 use lib.Signed.{leZ, ltZ}
 use Rattle.bits.specs.Range.{within}
+use Rattle.fxtable.specs.declared.domains.Domain.{Domain}
+use Rattle.fxtable.specs.declared.domains.Domain.the-variants.{Fixnum, Divisor, Position, FieldEnd, NewBit, SignedDistance, Distance, Rotation}
 
 unfoldable pub leastWidth : ℕ
 leastWidth = 24
@@ -25,18 +28,18 @@ isWidth w = leb leastWidth w && leb w largestWidth
 unfoldable pub arg : List ℤ → ℕ → ℤ
 arg xs i = getD xs i (pos 0)
 
-pub data Domain : Type 0 where
-  fixnum divisor position fieldEnd newBit signedDistance distance rotation : Domain
-
 unfoldable pub accepts : Domain → ℕ → List ℤ → ℤ → Bool
-accepts fixnum w xs x = true
-accepts divisor w xs x = ltb 0 (natAbs x)
-accepts position w xs x = within (pos 0) x (pos (w - 1))
-accepts fieldEnd w xs x = within (arg xs 1) x (pos (w - 1))
-accepts newBit w xs x = within (pos 0) x (pos 1)
-accepts signedDistance w xs x = within (negℤ (pos (w - 1))) x (pos (w - 1))
-accepts distance w xs x = within (pos 0) x (pos (w - 1))
-accepts rotation w xs x = leZ (pos 0) x && ltZ x (arg xs 2 -ℤ arg xs 1)
+accepts Fixnum w xs x = true
+accepts Divisor w xs x = ltb 0 (natAbs x)
+accepts Position w xs x = within (pos 0) x (pos (w - 1))
+accepts FieldEnd w xs x = within (arg xs 1) x (pos (w - 1))
+accepts NewBit w xs x = within (pos 0) x (pos 1)
+accepts SignedDistance w xs x = within (negℤ (pos (w - 1))) x (pos (w - 1))
+accepts Distance w xs x = within (pos 0) x (pos (w - 1))
+accepts Rotation w xs x = leZ (pos 0) x && ltZ x (arg xs 2 -ℤ arg xs 1)
+
+unfoldable pub domainAt : List Domain → ℕ → Domain
+domainAt ds i = getD ds i Fixnum
 
 unfoldable pub inDomainsFrom : ℕ → List Domain → ℕ → List ℤ → Bool
 inDomainsFrom i [] w xs = true

@@ -1,9 +1,9 @@
--- What an accepted call says of its width, its count and its arguments. Assumes nothing.
+-- What an accepted call says of its width, its count and its arguments; answers, from equal results. Assumes nothing.
 use Prim.Native.Nat.{ℕ, zero, suc, _-_, _≤_, _<_, _^_}
 use native.Mathlib.Nat.{le-antisymm, lt-of-lt-of-le, le-of-suc-le-suc, not-suc-le-zero}
 use native.Mathlib.Omega.{arith}
 use mathlib.Core.Path.{_≡_, refl, sym, ap, _∙_, subst}
-use mathlib.Core.Bool.{Bool, true, false, cond, _&&_, _||_}
+use mathlib.Core.Bool.{Bool, true, false, _&&_, _||_}
 use mathlib.Core.List.{List, [], _∷_}
 use lib.Dec.{leb, eqb}
 use lib.IntN.{ℤ, pos}
@@ -12,15 +12,17 @@ use lib.Pow.{pow-pos, pow-mono}
 use lib.Seq.{getD-take}
 use lib.Signed.{mag}
 use mir.Syntax.{w64}
-use mir.Val.{SFits, toZ, ofZ}
+use mir.Val.{toZ, ofZ}
 use borrow.Author.Tests.{leb-true, lt-ltb, ne-eqb}
 use Rattle.bits.proofs.Booleans.{both-left, both-right}
 use Rattle.bits.specs.Testbit.{fits}
+use Rattle.outcomes.specs.Outcome.{done, refuse}
+use Rattle.outcomes.proofs.OutcomeLaws.{passed, failed}
 use Rattle.words.proofs.WordLaws.{back-word, fits-mag}
-use Rattle.fixnum.specs.declared.Answer.{Answer}
-use Rattle.fixnum.specs.Answers.{done, refuse, unless}
-use Rattle.fixnum.specs.Domains.{leastWidth, largestWidth, isWidth, arg}
-use Rattle.fixnum.specs.Calls.{counted, allFixnums, sized}
+use Rattle.fxtable.specs.declared.answer.Answer.{Answer}
+use Rattle.fxtable.specs.Answers.{answer}
+use Rattle.fxtable.specs.Domains.{leastWidth, largestWidth, isWidth, arg}
+use Rattle.fxtable.specs.Calls.{counted, allFixnums, checked}
 
 or-true : (b : Bool) → b || true ≡ true
 or-true true = refl
@@ -34,11 +36,12 @@ between m n k h =
 pub exactly : (n count : ℕ) → leb n count && leb count n ≡ true → count ≡ n
 exactly n count h = le-antisymm (between n count n h .1) (between n count n h .0)
 
-pub width-bounds : (w : ℕ) → isWidth w ≡ true → (24 ≤ w) × (w ≤ 62)
+-- every law above says no more of a width than this
+pub width-bounds : (w : ℕ) → isWidth w ≡ true → (24 ≤ w) × (w ≤ 64)
 unfolding isWidth leastWidth largestWidth
-width-bounds w h = between 24 w 62 h
+width-bounds w h = let b = between 24 w 62 h in (b .0, omega arith)
 
--- an argument below the count is the place
+-- an argument below the count is the slot
 pub arg-counted : (xs : List ℤ) (n i : ℕ) → i < n → arg (counted xs n) i ≡ arg xs i
 unfolding arg counted
 arg-counted xs n i h = getD-take n xs i (pos 0) h
@@ -56,33 +59,35 @@ fits-arg w (x ∷ xs) (suc n) zero h k = both-left (fits w x) (allFixnums w (tak
 fits-arg w (x ∷ xs) (suc n) (suc i) h k =
     fits-arg w xs n i (both-right (fits w x) (allFixnums w (take n xs)) h) (le-of-suc-le-suc k)
 
--- and so a machine word
-pub word-fixnum : (w : ℕ) (x : ℤ) → isWidth w ≡ true → fits w x ≡ true → SFits w64 x
-word-fixnum w x a h =
-    let b = width-bounds w a in
-    record { sfits = lt-of-lt-of-le (fits-mag w x h) (pow-mono {j = 63} (omega arith)) }
-
+-- a fixnum is a machine word
 pub fits-word : (w : ℕ) (x : ℤ) → isWidth w ≡ true → fits w x ≡ true → fits 64 x ≡ true
 unfolding fits
-fits-word w x a h = lt-ltb (mag x) (2 ^ 63) (word-fixnum w x a h .sfits)
+fits-word w x a h =
+    let b = width-bounds w a in
+    lt-ltb (mag x) (2 ^ 63) (lt-of-lt-of-le (fits-mag w x h) (pow-mono {j = 63} (omega arith)))
 
-pub done-cong : {a a′ b b′ : ℤ} → a ≡ a′ → b ≡ b′ → done a b ≡ done a′ b′
+-- ---- answers
+
+pub done-cong : {a a′ b b′ : ℤ} → a ≡ a′ → b ≡ b′ → answer (done (a, b)) ≡ answer (done (a′, b′))
 done-cong p q = cc
 
 -- an answer from the word that holds its one result
-pub done-word : {r : Answer} {y z : ℤ} → r ≡ done (toZ w64 (ofZ w64 y)) (pos 0) → mag y < 2 ^ 63 → y ≡ z → r ≡ done z (pos 0)
-done-word {y} d h e = d ∙ ap (λ (x : ℤ). done x (pos 0)) (back-word y h ∙ e)
+pub done-word : {r : Answer} {y z : ℤ} → r ≡ answer (done (toZ w64 (ofZ w64 y), pos 0)) → mag y < 2 ^ 63 → y ≡ z → r ≡ answer (done (z, pos 0))
+done-word {y} d h e = d ∙ done-cong (back-word y h ∙ e) refl
 
-pub sized-cong : {a a′ b b′ : ℤ} (k w : ℕ) → a ≡ a′ → b ≡ b′ → sized k w (a, b) ≡ sized k w (a′, b′)
-sized-cong k w p q = cc
+pub checked-cong : {a a′ b b′ : ℤ} (k w : ℕ) → a ≡ a′ → b ≡ b′ → answer (checked k w (a, b)) ≡ answer (checked k w (a′, b′))
+checked-cong k w p q = cc
 
--- the size test, passed and failed
-pub sized-fits : (k w : ℕ) (a b : ℤ) → fits w a ≡ true → sized k w (a, b) ≡ done a b
-unfolding sized unless
-sized-fits k w a b h = ap (λ (t : Bool). cond (eqb k 0 || t) (done a b) (refuse k)) h ∙ ap (λ (t : Bool). cond t (done a b) (refuse k)) (or-true (eqb k 0))
+-- the test for overflow, passed and failed; and where there is none
+pub checked-fits : (k w : ℕ) (a b : ℤ) → fits w a ≡ true → answer (checked k w (a, b)) ≡ answer (done (a, b))
+unfolding checked
+checked-fits k w a b h = ap answer (passed k (done (a, b)) (ap (λ (t : Bool). eqb k 0 || t) h ∙ or-true (eqb k 0)))
 
-pub sized-large : (k w : ℕ) (a b : ℤ) → 0 < k → fits w a ≡ false → sized k w (a, b) ≡ refuse k
-unfolding sized unless
-sized-large k w a b p h =
-    ap (λ (t : Bool). cond (eqb k 0 || t) (done a b) (refuse k)) h
-    ∙ ap (λ (t : Bool). cond (t || false) (done a b) (refuse k)) (ne-eqb k 0 (λ e. omega arith))
+pub checked-large : (k w : ℕ) (a b : ℤ) → 0 < k → fits w a ≡ false → answer (checked k w (a, b)) ≡ answer (refuse k)
+unfolding checked
+checked-large k w a b p h =
+    ap answer (failed k (done (a, b)) (ap (λ (t : Bool). eqb k 0 || t) h ∙ ap (λ (t : Bool). t || false) (ne-eqb k 0 (λ e. omega arith))))
+
+pub never-checked : (w : ℕ) (r : ℤ × ℤ) → answer (done r) ≡ answer (checked 0 w r)
+unfolding checked
+never-checked w r = sym (ap answer (passed 0 (done r) refl))

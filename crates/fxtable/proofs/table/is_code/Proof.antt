@@ -1,10 +1,10 @@
--- `fixnum::checks::is_code` meets its contract. Assumes nothing.
+-- `fxtable::table::is_code` meets its contract. Assumes nothing.
 use lib.Dec.{leb}
 use borrow.Author.Tests.{le-leb, lt-leb}
-use Rattle.fixnum.specs.Table.{isCode, rows}
+use Rattle.fxtable.specs.Table.{isCode, rows}
 use Rattle.bits.proofs.Booleans.{and-first, and-second}
-use Rattle.fixnum.proofs.checks.is_code.Statement.{statement}
-use Rattle.fixnum.proofs.checks.is_code.Tie as tie
+use Rattle.fxtable.proofs.table.is_code.Statement.{statement}
+use Rattle.fxtable.proofs.table.is_code.Tie as tie
 
 returns : tie.Need-returns
 unfolding isCode rows

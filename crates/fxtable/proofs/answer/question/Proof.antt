@@ -1,13 +1,13 @@
--- `fixnum::question` meets its contract. Assumes nothing.
+-- `fxtable::answer::question` meets its contract. Assumes nothing.
 use borrow.Author.Needs.{needs}
 use mathlib.Core.Path.{_≡_, refl, _∙_}
 use mathlib.Core.Bool.{Bool, true, false}
 use mir.Syntax.{w64}
 use mir.Val.{boolByte, toZ}
-use Rattle.fixnum.specs.Operations.{truth}
-use Rattle.fixnum.proofs.CallLaws.{done-cong}
-use Rattle.fixnum.proofs.question.Statement.{statement}
-use Rattle.fixnum.proofs.question.Tie as tie
+use Rattle.fxtable.specs.Operations.{truth}
+use Rattle.fxtable.proofs.CallLaws.{done-cong}
+use Rattle.fxtable.proofs.answer.question.Statement.{statement}
+use Rattle.fxtable.proofs.answer.question.Tie as tie
 
 -- a bool as a number
 as-number : (b : Bool) → toZ w64 (boolByte b) ≡ truth b

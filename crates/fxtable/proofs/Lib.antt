@@ -1,0 +1,3 @@
+-- Laws of the table, and of accepted calls.
+pub mod CallLaws
+pub mod TableLaws

@@ -1,0 +1,5 @@
+pub mod Answers
+pub mod Domains
+pub mod Operations
+pub mod Table
+pub mod Calls
