@@ -22,7 +22,8 @@ use Rattle.words.proofs.WordLaws.{back-word, fits-mag}
 use Rattle.fxtable.specs.declared.answer.Answer.{Answer}
 use Rattle.fxtable.specs.Answers.{answer}
 use Rattle.fxtable.specs.Domains.{leastWidth, largestWidth, isWidth, arg}
-use Rattle.fxtable.specs.Calls.{counted, allFixnums, checked}
+use Rattle.fxtable.specs.Table.{isCode}
+use Rattle.fxtable.specs.Calls.{Accepted, counted, allFixnums, checked, outcome, fixnumAnswer}
 
 or-true : (b : Bool) → b || true ≡ true
 or-true true = refl
@@ -91,3 +92,9 @@ checked-large k w a b p h =
 pub never-checked : (w : ℕ) (r : ℤ × ℤ) → answer (done r) ≡ answer (checked 0 w r)
 unfolding checked
 never-checked w r = sym (ap answer (passed 0 (done r) refl))
+
+-- an answer whose first five stages pass
+pub accepted : (w code : ℕ) (xs : List ℤ) (n : ℕ) → isCode code ≡ true → Accepted w code xs n → fixnumAnswer w code xs n ≡ answer (outcome w code (counted xs n))
+unfolding fixnumAnswer
+accepted w code xs n k a =
+    ap answer (passed 1 _ (a .width) ∙ passed 2 _ k ∙ passed 3 _ (a .arity) ∙ passed 4 _ (a .fixnums) ∙ passed 5 _ (a .domains))

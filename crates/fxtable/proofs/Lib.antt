@@ -1,3 +1,6 @@
--- Laws of the table, and of accepted calls.
+-- Laws of the table, of accepted calls, and of the loops over the arguments.
 pub mod CallLaws
 pub mod TableLaws
+pub mod DomainLaws
+pub mod MeaningLaws
+pub mod LoopLaws

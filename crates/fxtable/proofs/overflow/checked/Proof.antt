@@ -1,11 +1,11 @@
--- `fixnum::sized` meets its contract. Assumes nothing.
+-- `fxtable::overflow::checked` meets its contract. Assumes nothing.
 use borrow.Author.Needs.{needs}
 use native.Mathlib.Omega.{arith}
 use mathlib.Core.Path.{sym, _∙_}
 use Rattle.words.proofs.WordLaws.{back}
-use Rattle.fixnum.proofs.CallLaws.{width-bounds, fits-word, done-cong, sized-fits, sized-large}
-use Rattle.fixnum.proofs.sized.Statement.{statement}
-use Rattle.fixnum.proofs.sized.Tie as tie
+use Rattle.fxtable.proofs.CallLaws.{width-bounds, fits-word, done-cong, checked-fits, checked-large}
+use Rattle.fxtable.proofs.overflow.checked.Statement.{statement}
+use Rattle.fxtable.proofs.overflow.checked.Tie as tie
 
 absolute-fits-requires : tie.Need-absolute-fits-requires
 absolute-fits-requires c κs = let b = width-bounds (c .args .width) (c .pre .0) in omega arith
@@ -19,16 +19,16 @@ returns c =
     let a = c .before .before .before .before in
     c .done .ensures
     ∙ done-cong (back (record { sfits = c .before .from-absolute .ok }) ∙ c .before .from-absolute .ensures) (back (a .fits .second))
-    ∙ sym (sized-fits (a .args .size) (a .args .width) _ _ (sym (c .before .before .before .absolute-fits .ensures) ∙ c .before .before .if1 .taken))
+    ∙ sym (checked-fits (a .args .overflow) (a .args .width) _ _ (sym (c .before .before .before .absolute-fits .ensures) ∙ c .before .before .if1 .taken))
 
 returns-2 : tie.Need-returns-2
 returns-2 c =
     let a = c .before .before .before in
     c .refuse .ensures
-    ∙ sym (sized-large (a .args .size) (a .args .width) _ _ (a .pre .1) (sym (c .before .before .absolute-fits .ensures) ∙ c .before .if1 .left))
+    ∙ sym (checked-large (a .args .overflow) (a .args .width) _ _ (a .pre .1) (sym (c .before .before .absolute-fits .ensures) ∙ c .before .if1 .left))
 
-pub sized-spec : {M : Type 1} → statement M
-sized-spec =
+pub checked-spec : {M : Type 1} → statement M
+checked-spec =
     tie.close
     (tie.spec
     absolute-fits-requires

@@ -1,4 +1,4 @@
--- `fixnum::loops::all_fixnums` meets its contract. The invariant: the answer is that for the arguments from i on. Assumes nothing.
+-- `fxtable::loops::all_fixnums` meets its contract. The invariant: the answer is that for the arguments from i on. Assumes nothing.
 use Prim.Native.Nat.{_-_, _≤_, _+_}
 use native.Mathlib.Omega.{arith}
 use mathlib.Core.Path.{_≡_, refl, sym, ap, _∙_}
@@ -7,12 +7,12 @@ use borrow.Author.Tests.{not-true, not-false}
 use lib.ListN.{drop}
 use Rattle.bits.specs.Testbit.{fits}
 use Rattle.words.proofs.WordLaws.{back}
-use Rattle.fixnum.specs.Domains.{arg}
-use Rattle.fixnum.specs.Calls.{counted, allFixnums}
-use Rattle.fixnum.proofs.CallLaws.{width-bounds}
-use Rattle.fixnum.proofs.LoopLaws.{fixnums-step, rest-none}
-use Rattle.fixnum.proofs.loops.all_fixnums.Statement.{statement}
-use Rattle.fixnum.proofs.loops.all_fixnums.Tie as tie
+use Rattle.fxtable.specs.Domains.{arg}
+use Rattle.fxtable.specs.Calls.{counted, allFixnums}
+use Rattle.fxtable.proofs.CallLaws.{width-bounds}
+use Rattle.fxtable.proofs.LoopLaws.{fixnums-step, rest-none}
+use Rattle.fxtable.proofs.loops.all_fixnums.Statement.{statement}
+use Rattle.fxtable.proofs.loops.all_fixnums.Tie as tie
 
 abbrev Inv-loop : tie.InvT-loop
 Inv-loop width count args i₀ i = (i ≤ count) × (allFixnums width (counted args count) ≡ allFixnums width (drop i (counted args count)))

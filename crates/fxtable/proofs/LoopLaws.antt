@@ -11,12 +11,22 @@ use lib.IntN.{ℤ, pos, negsuc}
 use lib.ListN.{length, take, drop, length-take, drop-of-length-le}
 use lib.Seq.{drop-cons, getD-take, length-take-le}
 use mir.Syntax.{w64}
-use mir.Val.{SFits, ofZ}
+use mir.Val.{SFits, toZ, ofZ}
 use borrow.Author.Tests.{eq-eqb, ne-eqb, eqb-true, eqb-false, leb-true, leb-false}
 use Rattle.bits.specs.Testbit.{fits}
-use Rattle.fixnum.specs.Domains.{arg}
-use Rattle.fixnum.specs.Operations.{equal, chainFrom, chain, foldFrom}
-use Rattle.fixnum.specs.Calls.{counted, allFixnums}
+use Rattle.fxtable.specs.Domains.{arg}
+use Rattle.fxtable.specs.Operations.{every, resultsOf, foldFrom}
+use Rattle.bits.specs.Logical.{bitwise, bitwiseFrom}
+use Rattle.outcomes.specs.Outcome.{done}
+use Rattle.fxtable.specs.declared.answer.Answer.{Answer}
+use Rattle.fxtable.specs.declared.loops.Fold.{Fold}
+use Rattle.fxtable.specs.Answers.{answer}
+use Rattle.fxtable.specs.Folds.{step}
+use Rattle.fxtable.specs.Table.{row, rowOf, never}
+use Rattle.fxtable.specs.Calls.{counted, allFixnums, outcome}
+use Rattle.fxtable.proofs.CallLaws.{done-word, never-checked}
+use Rattle.fxtable.proofs.MeaningLaws.{outcome-row}
+use lib.Signed.{mag}
 
 module _ (xs : List ℤ) (n : ℕ) (four : length xs ≡ 4) (few : n ≤ 4) where
   counted-length : length (counted xs n) ≡ n
@@ -53,47 +63,16 @@ module _ (xs : List ℤ) (n : ℕ) (four : length xs ≡ 4) (few : n ≤ 4) wher
   fold-two f x e =
       fold-step f x 0 (omega arith) ∙ fold-step f (f x (arg xs 0)) 1 (omega arith) ∙ ap (foldFrom f (f (f x (arg xs 0)) (arg xs 1))) (rest-none xs n 2 (omega arith))
 
-  pub chain-step : (r : ℤ → ℤ → Bool) (i : ℕ) → i + 1 < n
-      → chain r (drop i (counted xs n)) ≡ r (arg xs i) (arg xs (i + 1)) && chain r (drop (i + 1) (counted xs n))
-  unfolding chain chainFrom
-  chain-step r i h =
-      let next = rest-cons xs n four few (i + 1) h in
-      ap (chain r) (rest-cons xs n four few i (omega arith) ∙ ap (λ (ys : List ℤ). arg xs i ∷ ys) next)
-      ∙ ap (λ (ys : List ℤ). r (arg xs i) (arg xs (i + 1)) && chain r ys) (sym next)
+-- and, ior and xor of any number of arguments are folds
+pub from-fold : (op : Bool → Bool → Bool) (x : ℤ) (ys : List ℤ) → bitwiseFrom op x ys ≡ foldFrom (bitwise op) x ys
+unfolding bitwiseFrom foldFrom
+from-fold op x [] = refl
+from-fold op x (y ∷ ys) = from-fold op (bitwise op x y) ys
 
-  pub chain-last : (r : ℤ → ℤ → Bool) (i : ℕ) → i < n → n ≤ i + 1 → chain r (drop i (counted xs n)) ≡ true
-  unfolding chain chainFrom
-  chain-last r i h k =
-      ap (chain r) (rest-cons xs n four few i h ∙ ap (λ (ys : List ℤ). arg xs i ∷ ys) (rest-none xs n (i + 1) k))
-
--- the machine's test x == y, which compares bits
-eqb-leb : (a b : ℕ) → eqb a b ≡ leb a b && leb b a
-eqb-leb a b = go (leb a b) (leb b a) refl refl
-  where
-    go : (s t : Bool) → leb a b ≡ s → leb b a ≡ t → eqb a b ≡ s && t
-    go true true p q = eq-eqb a b (le-antisymm (leb-true a b p) (leb-true b a q))
-    go true false p q = ne-eqb a b (λ e. omega (arith, leb-false b a q))
-    go false t p q = ne-eqb a b (λ e. omega (arith, leb-false a b p))
-
-eqb-iff : (m n a b : ℕ) → (m ≡ n → a ≡ b) → (a ≡ b → m ≡ n) → eqb m n ≡ eqb a b
-eqb-iff m n a b f g = go (eqb a b) refl
-  where
-    go : (t : Bool) → eqb a b ≡ t → eqb m n ≡ t
-    go true e = eq-eqb m n (g (eqb-true a b e))
-    go false e = ne-eqb m n (λ d. eqb-false a b e (f d))
-
-pub equal-word : (x y : ℤ) → SFits w64 x → SFits w64 y → eqb (ofZ w64 x) (ofZ w64 y) ≡ equal x y
-unfolding equal
-equal-word (pos a) (pos b) h k = eqb-leb a b
-equal-word (pos a) (negsuc b) h k =
-    let p : a < 2 ^ 63 = h .sfits in
-    let q : b < 2 ^ 63 = k .sfits in
-    ne-eqb a (2 ^ 64 - suc b) (λ e. omega arith)
-equal-word (negsuc a) (pos b) h k =
-    let p : a < 2 ^ 63 = h .sfits in
-    let q : b < 2 ^ 63 = k .sfits in
-    ne-eqb (2 ^ 64 - suc a) b (λ e. omega arith)
-equal-word (negsuc a) (negsuc b) h k =
-    let p : a < 2 ^ 63 = h .sfits in
-    let q : b < 2 ^ 63 = k .sfits in
-    eqb-iff (2 ^ 64 - suc a) (2 ^ 64 - suc b) b a (λ e. omega arith) (λ e. omega arith) ∙ eqb-leb b a
+-- the answer of a code whose result is a fold, from the word that holds it
+pub fold-answer : (g : List ℤ → ℤ) (fold : Fold) (first : ℤ) (w code : ℕ) (ys : List ℤ) {least most : ℕ} {r : Answer} {y : ℤ}
+    → rowOf code ≡ row least most [] never (every g) → g ys ≡ foldFrom (step fold) first ys
+    → r ≡ answer (done (toZ w64 (ofZ w64 y), pos 0)) → mag y < 2 ^ 63 → y ≡ foldFrom (step fold) first ys → r ≡ answer (outcome w code ys)
+unfolding resultsOf
+fold-answer g fold first w code ys e q d h p =
+    done-word d h (p ∙ sym q) ∙ never-checked w (g ys, pos 0) ∙ ap answer (sym (outcome-row w code ys e))
