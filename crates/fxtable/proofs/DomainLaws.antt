@@ -1,9 +1,9 @@
 -- The domains of a code's arguments, one by one. Assumes nothing.
-use Prim.Native.Nat.{ℕ, zero, suc, zero-le, _-_, _≤_, _<_}
-use native.Mathlib.Nat.{le-trans, lt-of-lt-of-le, lt-of-le-of-lt, le-suc, sub-le}
+use Prim.Native.Nat.{ℕ, zero, suc, zero-le, _-_, _≤_}
+use native.Mathlib.Nat.{le-trans, lt-of-le-of-lt, le-suc, sub-le}
 use native.Mathlib.Omega.{arith}
 use mathlib.Core.Path.{_≡_, refl, sym, ap, _∙_, subst}
-use mathlib.Core.Bool.{Bool, true, false, not, _&&_, _||_}
+use mathlib.Core.Bool.{Bool, true, false, _&&_, _||_}
 use mathlib.Core.List.{List, [], _∷_}
 use lib.Dec.{T, leb, eqb}
 use lib.IntN.{ℤ, pos, negsuc, negℤ, _-ℤ_, +ℤ-idl}
@@ -20,7 +20,7 @@ use Rattle.fxtable.specs.declared.domains.Domain.{Domain}
 use Rattle.fxtable.specs.declared.domains.Domain.the-variants.{Fixnum, Divisor, Position, FieldEnd, NewBit, SignedDistance, Distance, Rotation}
 use Rattle.fxtable.specs.declared.table.Signature.{Signature}
 use Rattle.fxtable.specs.Domains.{isWidth, arg, accepts, domainAt, inDomainsFrom, inDomains}
-use Rattle.fxtable.specs.Table.{Row, rows, noRow, rowOf, signatureOf}
+use Rattle.fxtable.specs.Table.{rows, noRow, rowOf, signatureOf}
 use Rattle.fxtable.specs.Calls.{counted, isCount}
 use Rattle.fxtable.proofs.CallLaws.{between, width-bounds, arg-counted}
 use Rattle.fxtable.proofs.TableLaws.{of-row}

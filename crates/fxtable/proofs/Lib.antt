@@ -4,3 +4,4 @@ pub mod TableLaws
 pub mod DomainLaws
 pub mod MeaningLaws
 pub mod LoopLaws
+pub mod ArgumentLaws

@@ -1,21 +1,18 @@
 -- The loops over the arguments: what is still to be done after i turns, and one turn of it. Assumes nothing.
 use Prim.Native.Nat.{ℕ, suc, _+_, _-_, _≤_, _<_, _^_}
-use native.Mathlib.Nat.{le-antisymm}
 use native.Mathlib.Numerals.{add-one}
 use native.Mathlib.Omega.{arith}
 use mathlib.Core.Path.{_≡_, refl, sym, ap, _∙_}
-use mathlib.Core.Bool.{Bool, true, false, _&&_}
+use mathlib.Core.Bool.{Bool, _&&_}
 use mathlib.Core.List.{List, [], _∷_}
-use lib.Dec.{eqb, leb}
-use lib.IntN.{ℤ, pos, negsuc}
+use lib.IntN.{ℤ, pos}
 use lib.ListN.{length, take, drop, length-take, drop-of-length-le}
 use lib.Seq.{drop-cons, getD-take, length-take-le}
 use mir.Syntax.{w64}
-use mir.Val.{SFits, toZ, ofZ}
-use borrow.Author.Tests.{eq-eqb, ne-eqb, eqb-true, eqb-false, leb-true, leb-false}
+use mir.Val.{toZ, ofZ}
 use Rattle.bits.specs.Testbit.{fits}
 use Rattle.fxtable.specs.Domains.{arg}
-use Rattle.fxtable.specs.Operations.{every, resultsOf, foldFrom}
+use Rattle.fxtable.specs.Operations.{every, foldFrom}
 use Rattle.bits.specs.Logical.{bitwise, bitwiseFrom}
 use Rattle.outcomes.specs.Outcome.{done}
 use Rattle.fxtable.specs.declared.answer.Answer.{Answer}
@@ -24,8 +21,8 @@ use Rattle.fxtable.specs.Answers.{answer}
 use Rattle.fxtable.specs.Folds.{step}
 use Rattle.fxtable.specs.Table.{row, rowOf, never}
 use Rattle.fxtable.specs.Calls.{counted, allFixnums, outcome}
-use Rattle.fxtable.proofs.CallLaws.{done-word, never-checked}
-use Rattle.fxtable.proofs.MeaningLaws.{outcome-row}
+use Rattle.fxtable.proofs.CallLaws.{done-word}
+use Rattle.fxtable.proofs.MeaningLaws.{every-outcome}
 use lib.Signed.{mag}
 
 module _ (xs : List ℤ) (n : ℕ) (four : length xs ≡ 4) (few : n ≤ 4) where
@@ -73,6 +70,4 @@ from-fold op x (y ∷ ys) = from-fold op (bitwise op x y) ys
 pub fold-answer : (g : List ℤ → ℤ) (fold : Fold) (first : ℤ) (w code : ℕ) (ys : List ℤ) {least most : ℕ} {r : Answer} {y : ℤ}
     → rowOf code ≡ row least most [] never (every g) → g ys ≡ foldFrom (step fold) first ys
     → r ≡ answer (done (toZ w64 (ofZ w64 y), pos 0)) → mag y < 2 ^ 63 → y ≡ foldFrom (step fold) first ys → r ≡ answer (outcome w code ys)
-unfolding resultsOf
-fold-answer g fold first w code ys e q d h p =
-    done-word d h (p ∙ sym q) ∙ never-checked w (g ys, pos 0) ∙ ap answer (sym (outcome-row w code ys e))
+fold-answer g fold first w code ys e q d h p = done-word d h (p ∙ sym q) ∙ every-outcome g w code ys e

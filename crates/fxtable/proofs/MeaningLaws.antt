@@ -1,17 +1,18 @@
 -- What an accepted call comes to, from the row of its code and the slots, for rows that allow one count of arguments only. Assumes nothing.
 use Prim.Native.Nat.{ℕ}
-use mathlib.Core.Path.{_≡_, sym, ap, _∙_, subst}
+use mathlib.Core.Path.{_≡_, refl, sym, ap, _∙_, subst}
 use mathlib.Core.Bool.{true, _&&_}
 use mathlib.Core.List.{List}
 use lib.Dec.{leb, lit<}
 use lib.IntN.{ℤ, pos}
+use Rattle.outcomes.specs.Outcome.{done}
 use Rattle.fxtable.specs.declared.domains.Domain.{Domain}
 use Rattle.fxtable.specs.Answers.{answer}
 use Rattle.fxtable.specs.Domains.{arg}
-use Rattle.fxtable.specs.Operations.{single, double, resultsOf}
-use Rattle.fxtable.specs.Table.{Row, row, rowOf}
+use Rattle.fxtable.specs.Operations.{single, double, resultsOf, every}
+use Rattle.fxtable.specs.Table.{Row, row, rowOf, never}
 use Rattle.fxtable.specs.Calls.{Accepted, counted, isCount, checked, outcome}
-use Rattle.fxtable.proofs.CallLaws.{arg-exactly}
+use Rattle.fxtable.proofs.CallLaws.{arg-exactly, never-checked}
 
 pub outcome-row : {r : Row} (w code : ℕ) (ys : List ℤ) → rowOf code ≡ r → outcome w code ys ≡ checked (r .overflow) w (resultsOf (r .results) w ys)
 unfolding outcome
@@ -22,9 +23,15 @@ unfolding isCount
 arity-row {n} e a = subst (λ (r : Row). leb (r .least) n && leb n (r .most) ≡ true) e (a .arity)
 
 -- the answer of a row's results
-by-row : {r : Row} {y : ℤ × ℤ} (w code : ℕ) (ys : List ℤ) → rowOf code ≡ r → resultsOf (r .results) w ys ≡ y
+pub by-row : {r : Row} {y : ℤ × ℤ} (w code : ℕ) (ys : List ℤ) → rowOf code ≡ r → resultsOf (r .results) w ys ≡ y
     → answer (checked (r .overflow) w y) ≡ answer (outcome w code ys)
 by-row {r} w code ys e k = sym (ap answer (outcome-row w code ys e ∙ ap (checked (r .overflow) w) k))
+
+-- one result of all arguments, never refused
+pub every-outcome : (g : List ℤ → ℤ) {least most : ℕ} {domains : List Domain} (w code : ℕ) (ys : List ℤ) → rowOf code ≡ row least most domains never (every g)
+    → answer (done (g ys, pos 0)) ≡ answer (outcome w code ys)
+unfolding resultsOf
+every-outcome g w code ys e = never-checked w (g ys, pos 0) ∙ by-row w code ys e refl
 
 module _ {domains : List Domain} {overflow w code : ℕ} {xs : List ℤ} {n : ℕ} where
   -- one result, of one to four arguments

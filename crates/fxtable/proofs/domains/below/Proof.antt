@@ -1,5 +1,4 @@
 -- `fxtable::domains::below` meets its contract. Assumes nothing.
-use mathlib.Core.Path.{_≡_, sym, _∙_}
 use Rattle.words.proofs.WordLaws.{back}
 use Rattle.bits.proofs.Booleans.{and-first, and-second}
 use Rattle.fxtable.proofs.domains.below.Statement.{statement}

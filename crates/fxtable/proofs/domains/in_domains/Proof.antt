@@ -1,10 +1,10 @@
 -- `fxtable::domains::in_domains` meets its contract. Assumes nothing.
 use borrow.Author.Needs.{needs}
 use native.Mathlib.Omega.{arith}
-use mathlib.Core.Path.{_≡_, sym, ap, _∙_}
-use mathlib.Core.Bool.{Bool, true, false, _&&_}
+use mathlib.Core.Path.{_≡_, sym, _∙_}
+use mathlib.Core.Bool.{true}
 use borrow.Author.Tests.{not-true, not-false}
-use Rattle.fxtable.specs.Domains.{arg, accepts}
+use Rattle.fxtable.specs.Domains.{accepts}
 use Rattle.fxtable.proofs.DomainLaws.{signature-domains, no-second, no-third, in-order}
 use Rattle.fxtable.proofs.domains.in_domains.Statement.{statement}
 use Rattle.fxtable.proofs.domains.in_domains.Tie as tie

@@ -1,7 +1,6 @@
 -- `fxtable::table::has_two_results` meets its contract. Assumes nothing.
 use borrow.Author.Needs.{needs}
 use mathlib.Core.Path.{ap}
-use mathlib.Core.Bool.{Bool}
 use Rattle.fxtable.specs.declared.table.Signature.{Signature}
 use Rattle.fxtable.specs.Table.{signatureOf}
 use Rattle.fxtable.proofs.table.has_two_results.Statement.{statement}

@@ -1,7 +1,7 @@
 -- `fxtable::width::is_fixnum` meets its contract. Assumes nothing.
 use borrow.Author.Needs.{needs}
 use native.Mathlib.Omega.{arith}
-use mathlib.Core.Path.{_≡_, sym, ap, _∙_}
+use mathlib.Core.Path.{sym, ap, _∙_}
 use Rattle.bits.specs.Testbit.{fits}
 use Rattle.bits.proofs.Booleans.{and-first, and-second}
 use Rattle.words.proofs.WordLaws.{back}
