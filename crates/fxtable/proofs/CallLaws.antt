@@ -98,6 +98,10 @@ pub never-checked : (w : ℕ) (r : ℤ × ℤ) → answer (done r) ≡ answer (c
 unfolding checked
 never-checked w r = sym (ap answer (passed 0 (done r) refl))
 
+-- an answer from the word that holds its one result, of a code that is never refused for overflow
+pub done-never : (w : ℕ) {r : Answer} {y z : ℤ} → r ≡ answer (done (toZ w64 (ofZ w64 y), pos 0)) → mag y < 2 ^ 63 → y ≡ z → r ≡ answer (checked 0 w (z, pos 0))
+done-never w {z} d h e = done-word d h e ∙ never-checked w (z, pos 0)
+
 -- an answer whose first five stages pass
 pub accepted : (w code : ℕ) (xs : List ℤ) (n : ℕ) → isCode code ≡ true → Accepted w code xs n → fixnumAnswer w code xs n ≡ answer (outcome w code (counted xs n))
 unfolding fixnumAnswer
