@@ -2,6 +2,7 @@
 ghost use mathlib.Core.Path.{_≡_};
 ghost use Rattle.fxtable.specs.Operations.{hasTwo};
 ghost use Rattle.fxtable.specs.Table.{isCode, rowOf, signatureFrom, signatureOf};
+ghost use Rattle.fxtable.specs.Calls.{isCount};
 use super::domains::Domain;
 
 const CODES: u64 = 41;
@@ -155,6 +156,14 @@ pub fn signature_of(code: u64) -> Signature
         ), // fxreverse-bit-field
         _ => row(1, 0, Domain::Fixnum, Domain::Fixnum, Domain::Fixnum, false),
     }
+}
+
+// Whether a code takes so many arguments.
+pub fn is_count(code: u64, count: u64) -> bool
+    ensures { λ r. ⌜ r ≡ isCount code count ⌝ }
+{
+    let s = signature_of(code);
+    s.least <= count && count <= s.most
 }
 
 pub fn has_two_results(code: u64) -> bool

@@ -2,7 +2,6 @@
 use borrow.Author.Needs.{needs}
 use native.Mathlib.Omega.{arith}
 use mathlib.Core.Path.{_≡_, refl, ap, _∙_}
-use mathlib.Core.Bool.{Bool}
 use Prim.Native.Nat.{ℕ, _<_, _≤_, _^_}
 use lib.Dec.{lit<}
 use lib.IntN.{ℤ, pos, natAbs}
@@ -15,9 +14,9 @@ use Rattle.words.proofs.WordLaws.{back-word}
 use Rattle.outcomes.specs.Outcome.{done}
 use Rattle.fxtable.specs.Answers.{answer}
 use Rattle.fxtable.specs.Domains.{arg, domainAt}
-use Rattle.fxtable.specs.Operations.{truth, question, copyBitAt}
+use Rattle.fxtable.specs.Operations.{truth, question}
 use Rattle.fxtable.specs.Table.{rows, rowOf}
-use Rattle.fxtable.specs.Calls.{counted, checked, outcome}
+use Rattle.fxtable.specs.Calls.{counted, outcome}
 use Rattle.fxtable.proofs.CallLaws.{width-bounds, done-cong, done-word, never-checked}
 use Rattle.fxtable.proofs.MeaningLaws.{two-outcome, three-outcome}
 use Rattle.fxtable.proofs.DomainLaws.{domainOf}

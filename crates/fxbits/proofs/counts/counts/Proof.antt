@@ -17,7 +17,7 @@ use Rattle.fxtable.specs.Answers.{answer}
 use Rattle.fxtable.specs.Domains.{arg}
 use Rattle.fxtable.specs.Operations.{one}
 use Rattle.fxtable.specs.Table.{rows, row, rowOf, never}
-use Rattle.fxtable.specs.Calls.{Accepted, counted, checked, outcome}
+use Rattle.fxtable.specs.Calls.{Accepted, counted, outcome}
 use Rattle.fxtable.proofs.CallLaws.{done-never}
 use Rattle.fxtable.proofs.MeaningLaws.{one-outcome}
 use Rattle.fxbits.proofs.counts.counts.Statement.{statement}

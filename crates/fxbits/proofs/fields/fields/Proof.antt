@@ -11,7 +11,6 @@ use Rattle.words.proofs.FieldWords.{copyBitField-put}
 use Rattle.words.proofs.RotateWords.{bitField-number, rotate-put, reverse-put}
 use Rattle.words.proofs.WordLaws.{back, back-word}
 use Rattle.fxtable.specs.Domains.{arg, domainAt}
-use Rattle.fxtable.specs.Operations.{three, four}
 use Rattle.fxtable.specs.Table.{rows, rowOf}
 use Rattle.fxtable.proofs.CallLaws.{done-never}
 use Rattle.fxtable.proofs.MeaningLaws.{three-outcome, four-outcome}

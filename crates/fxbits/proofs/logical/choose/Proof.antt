@@ -1,11 +1,9 @@
 -- `fxbits::logical::choose` meets its contract. Assumes nothing.
 use borrow.Author.Needs.{needs}
 use mathlib.Core.Path.{refl, ap₂, _∙_}
-use lib.IntN.{pos}
 use Rattle.bits.specs.Logical.{bitwiseAnd, bitwiseIor, bitwiseIf}
 use Rattle.words.proofs.WordLaws.{back, not-word}
 use Rattle.fxtable.specs.Domains.{arg}
-use Rattle.fxtable.specs.Operations.{three}
 use Rattle.fxtable.specs.Table.{rows, rowOf}
 use Rattle.fxtable.proofs.CallLaws.{done-never}
 use Rattle.fxtable.proofs.MeaningLaws.{three-outcome}

@@ -1,11 +1,9 @@
 -- `fxbits::logical::not` meets its contract. Assumes nothing.
 use borrow.Author.Needs.{needs}
-use mathlib.Core.Path.{refl, ap, _∙_}
-use lib.IntN.{ℤ, pos}
+use mathlib.Core.Path.{refl, _∙_}
 use Rattle.bits.specs.Logical.{bitwiseNot}
 use Rattle.words.proofs.WordLaws.{not-word}
 use Rattle.fxtable.specs.Domains.{arg}
-use Rattle.fxtable.specs.Operations.{one}
 use Rattle.fxtable.specs.Table.{rows, rowOf}
 use Rattle.fxtable.proofs.CallLaws.{done-cong, never-checked}
 use Rattle.fxtable.proofs.MeaningLaws.{one-outcome}

@@ -1,7 +1,6 @@
 -- `fxbits::shifts::left` meets its contract. Assumes nothing.
 use mathlib.Core.Path.{refl, ap, _∙_}
 use Prim.Native.Nat.{ℕ, _*_}
-use lib.IntN.{ℤ, pos}
 use Rattle.words.specs.Sign.{withSign}
 use Rattle.words.proofs.SignedLaws.{rejoin}
 use Rattle.fxtable.proofs.CallLaws.{checked-cong}

@@ -4,14 +4,13 @@ use native.Mathlib.Omega.{arith}
 use mathlib.Core.Path.{_≡_, refl, sym, ap, _∙_}
 use Prim.Native.Nat.{ℕ, _<_}
 use lib.Dec.{lit<}
-use lib.IntN.{ℤ, pos, natAbs}
+use lib.IntN.{ℤ, natAbs}
 use mir.Syntax.{w64}
 use mir.Val.{toZ, ofZ}
 use Rattle.bits.specs.Testbit.{isNegative}
 use Rattle.bits.specs.Shift.{shiftLeft, shiftRight, arithmeticShift}
 use Rattle.words.proofs.WordLaws.{back-word}
 use Rattle.fxtable.specs.Domains.{arg}
-use Rattle.fxtable.specs.Operations.{two}
 use Rattle.fxtable.specs.Table.{rows, rowOf}
 use Rattle.fxtable.proofs.CallLaws.{done-word, done-never, checked-cong, checked-fits}
 use Rattle.fxtable.proofs.MeaningLaws.{two-outcome}
