@@ -20,7 +20,7 @@ use words::wide::widen;
 
 fn parts(width: u64, s: Wide) -> Answer
     requires { ⌜ isWidth width ≡ true ⌝ }
-    requires { ⌜ natAbs (wideValue s) < 2 ^ (62 + width) ⌝ }
+    requires { ⌜ natAbs (wideValue s) + 2 ^ width < 2 ^ (63 + width) ⌝ }
     ensures { λ r. ⌜ r ≡ answer (outcomes.done (partsOf width (wideValue s))) ⌝ }
 {
     done(low_part(width, s), high_part(width, s))

@@ -42,11 +42,6 @@ pub width-bounds : (w : ℕ) → isWidth w ≡ true → (24 ≤ w) × (w ≤ 64)
 unfolding isWidth leastWidth largestWidth
 width-bounds w h = let b = between 24 w 62 h in (b .0, omega arith)
 
--- until the parts of a sum are made at every width
-pub width-limit : (w : ℕ) → isWidth w ≡ true → (24 ≤ w) × (w ≤ 62)
-unfolding isWidth leastWidth largestWidth
-width-limit w h = between 24 w 62 h
-
 -- an argument below the count is the slot
 pub arg-counted : (xs : List ℤ) (n i : ℕ) → i < n → arg (counted xs n) i ≡ arg xs i
 unfolding arg counted

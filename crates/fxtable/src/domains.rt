@@ -10,6 +10,7 @@ ghost use Rattle.fxtable.specs.Domains as domains;
 ghost use Rattle.fxtable.specs.Table.{rowOf};
 ghost use Rattle.fxtable.specs.Calls.{isCount, counted};
 use super::table::signature_of;
+use words::range::within;
 use words::sign::absolute;
 
 pub enum Domain {
@@ -21,12 +22,6 @@ pub enum Domain {
     SignedDistance,
     Distance,
     Rotation,
-}
-
-fn within(low: i64, x: i64, high: i64) -> bool
-    ensures { λ r. ⌜ r ≡ range.within low x high ⌝ }
-{
-    low <= x && x <= high
 }
 
 // Whether x lies from 0 to size - 1.

@@ -9,6 +9,7 @@ use mir.Syntax.{w64}
 use mir.Val.{SFits}
 use Rattle.words.specs.Wide.{wideValue}
 use Rattle.words.proofs.WordLaws.{back}
+use Rattle.words.proofs.PartBounds.{signed, natAbs-signed}
 use Rattle.words.proofs.WideLaws.{word-room, sum-room, product-room}
 use Rattle.outcomes.specs.Outcome.{done}
 use Rattle.fxtable.specs.Answers.{answer}
@@ -17,7 +18,7 @@ use Rattle.fxtable.specs.Operations.{partsOf}
 use Rattle.fxtable.specs.Table.{rows, rowOf}
 use Rattle.fxtable.proofs.CallLaws.{never-checked}
 use Rattle.fxtable.proofs.MeaningLaws.{carry-outcome}
-use Rattle.fxarith.proofs.CarryLaws.{signed, signedSum, natAbs-signed, sum-row, sum-size, product-size}
+use Rattle.fxarith.proofs.CarryLaws.{signedSum, sum-row, sum-size, product-size}
 use Rattle.fxarith.proofs.carry.carry.Statement.{statement}
 use Rattle.fxarith.proofs.carry.carry.Tie as tie
 
@@ -73,7 +74,7 @@ add-word-requires c κs = let a = c .before .before in product-room (c .product 
 parts-requires : tie.Need-parts-requires
 parts-requires c κs =
     let a = start (c .before .before .before) in
-    (a .pre .0 .width, subst (λ (s : ℤ). natAbs s < 2 ^ (62 + a .args .width)) (sym (total c)) (product-size (a .pre .1) (a .pre .0)))
+    (a .pre .0 .width, subst (λ (s : ℤ). natAbs s + 2 ^ a .args .width < 2 ^ (63 + a .args .width)) (sym (total c)) (product-size (a .pre .1) (a .pre .0)))
 
 returns : tie.Need-returns
 unfolding rows rowOf
@@ -95,7 +96,7 @@ add-word-requires-3 c κs =
 parts-requires-2 : tie.Need-parts-requires-2
 parts-requires-2 c κs =
     let a = start (at (c .before .before)) in
-    (a .pre .0 .width, subst (λ (s : ℤ). natAbs s < 2 ^ (62 + a .args .width)) (sym (sum c)) (sum-size (a .pre .1) (a .pre .0) (eqb (a .args .code) 23)))
+    (a .pre .0 .width, subst (λ (s : ℤ). natAbs s + 2 ^ a .args .width < 2 ^ (63 + a .args .width)) (sym (sum c)) (sum-size (a .pre .1) (a .pre .0) (eqb (a .args .code) 23)))
 
 returns-2 : tie.Need-returns-2
 returns-2 c =

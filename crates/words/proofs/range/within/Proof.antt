@@ -1,14 +1,14 @@
--- `fxtable::domains::within` meets its contract. Assumes nothing.
+-- `words::range::within` meets its contract. Assumes nothing.
 use mathlib.Core.Path.{_≡_, sym, _∙_}
 use lib.IntN.{ℤ}
 use lib.Signed.{leZ}
 use mir.Syntax.{w64}
 use mir.Val.{SFits, toZ, ofZ}
 use Rattle.words.proofs.WordLaws.{back}
 use Rattle.bits.specs.Range.{within}
 use Rattle.bits.proofs.Booleans.{and-first, and-second}
-use Rattle.fxtable.proofs.domains.within.Statement.{statement}
-use Rattle.fxtable.proofs.domains.within.Tie as tie
+use Rattle.words.proofs.range.within.Statement.{statement}
+use Rattle.words.proofs.range.within.Tie as tie
 
 -- the machine's test x <= y
 test : {x y : ℤ} → SFits w64 x → SFits w64 y → leZ (toZ w64 (ofZ w64 x)) (toZ w64 (ofZ w64 y)) ≡ leZ x y
