@@ -1,18 +1,14 @@
 -- The distance of a shift, and the shifts to either side, by sign and absolute value, and by sign and magnitude. Assumes nothing.
 use Prim.Native.Nat.{ℕ, _*_, _-_, _/_, _≤_, _<_, _^_}
-use native.Mathlib.Nat.{lt-of-le-of-lt}
 use native.Mathlib.Omega.{arith}
 use mathlib.Core.Path.{_≡_, refl, ap, _∙_}
 use mathlib.Core.Bool.{Bool, true, false}
 use mathlib.Core.List.{List}
 use lib.IntN.{ℤ, pos, negsuc, natAbs, _*ℤ_}
-use lib.Pow.{shr-le}
 use lib.Signed.{mag}
-use borrow.Author.Tests.{lt-ltb}
-use Rattle.bits.specs.Testbit.{isNegative, fits}
+use Rattle.bits.specs.Testbit.{isNegative}
 use Rattle.words.specs.Sign.{withSign, ofMagnitude}
 use Rattle.bits.specs.Shift.{floorDiv, shiftLeft, shiftRight, arithmeticShift}
-use Rattle.words.proofs.WordLaws.{fits-mag}
 use Rattle.fxtable.specs.Domains.{arg, domainAt}
 use Rattle.fxtable.specs.Table.{rows, rowOf}
 use Rattle.fxtable.specs.Calls.{Accepted}
@@ -35,16 +31,6 @@ pub right-magnitude : (x : ℤ) (k : ℕ) → ofMagnitude (isNegative x) (mag x 
 unfolding ofMagnitude isNegative shiftRight floorDiv
 right-magnitude (pos n) k = refl
 right-magnitude (negsuc n) k = refl
-
-mag-right : (x : ℤ) (k : ℕ) → mag (shiftRight x k) ≤ mag x
-unfolding shiftRight floorDiv
-mag-right (pos n) k = shr-le n k
-mag-right (negsuc n) k = shr-le n k
-
--- a shift to the right stays a fixnum
-pub right-fits : (w : ℕ) (x : ℤ) (k : ℕ) → fits w x ≡ true → fits w (shiftRight x k) ≡ true
-unfolding fits
-right-fits w x k h = lt-ltb (mag (shiftRight x k)) (2 ^ (w - 1)) (lt-of-le-of-lt (mag-right x k) (fits-mag w x h))
 
 -- ---- one shift is two
 
