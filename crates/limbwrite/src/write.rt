@@ -74,6 +74,15 @@ fn write_shift_left(x: &[u32], by: u64, n: usize, part: &mut [u32])
     put_limbs(operation, x, x, x, rest, n, part);
 }
 
+// The first n limbs of x as they are.
+pub fn copy(x: &[u32], n: usize, part: &mut [u32])
+    requires { ⌜ 0 < length (now x) ⌝ }
+    requires { ⌜ (n ≤ length (now part)) × (n < 2 ^ 32) ⌝ }
+    ensures { λ r. ⌜ Puts 0 (limbAt (value (now (x .entry)))) (now (part .entry)) (now (part .exit)) 0 n ⌝ }
+{
+    put_windows(x, 0, 0, n, part);
+}
+
 fn write_shift_right(x: &[u32], by: u64, n: usize, part: &mut [u32])
     requires { ⌜ (0 < length (now x)) × (by < 2 ^ 32) ⌝ }
     requires { ⌜ (n ≤ length (now part)) × (n < 2 ^ 32) ⌝ }
