@@ -155,7 +155,7 @@ module _ (start end : ℕ) (h : start < end) (k : end ≤ 32767) where
   always-room : (steps : List Step) (x : List ℕ) → isOperand x ≡ true → ample steps ≡ true → hasRoom start end steps x ≡ true
   unfolding hasRoom ample
   always-room [] x f a = refl
-  always-capacity (s ∷ steps) x f a =
+  always-room (s ∷ steps) x f a =
       let r = ample-roomy s x f (both-left (leb mostLimbs (capacity (s .out) (s .first))) (ample steps) a) in
       rw r
       (always-room steps (handOn start end s x) (handed-legal s x f r) (both-right (leb mostLimbs (capacity (s .out) (s .first))) (ample steps) a))
