@@ -86,17 +86,15 @@ written-limbs {z} {out} {first} {r} {out′} w h =
     ap₂ (λ (a : Written) (l : List ℕ). take (a .length) (drop first l)) (w .answer) (w .buffer)
     ∙ read-back (shortest z) out first (omega (arith, length-shortest z, limbCount-positive z)) (sym (ap (λ (a : Written). a .refusal) (w .answer)) ∙ h)
 
--- it lies within the buffer
-pub written-within : {o : Outcome ℤ} {out out′ : List ℕ} {first : ℕ} {r : Written} → Writes o out first r out′ → r .length ≤ length out′ - first
+-- it lies within the buffer, from the first limb on
+pub written-within : {o : Outcome ℤ} {out out′ : List ℕ} {first : ℕ} {r : Written} → Writes o out first r out′
+    → (r .length ≤ length out′) × (0 < r .length → first + r .length ≤ length out′)
 unfolding written stored
 written-within {o} {out} {out′} {first} w =
-    omega (
-      arith,
-      ap (λ (a : Written). a .length) (w .answer),
-      countOf-room (mapDone shortest o) out first,
-      ap length (w .buffer),
-      afterwards-length (mapDone shortest o) out first,
-    )
+    let a = ap (λ (a : Written). a .length) (w .answer) in
+    let l = countOf-room (mapDone shortest o) out first in
+    let k = ap length (w .buffer) ∙ afterwards-length (mapDone shortest o) out first in
+    (omega arith, λ h. omega arith)
 
 -- the shortest limbs of an integer that fits 1,024 limbs are legal operands
 pub shortest-operand : (z : ℤ) → fits 32768 z ≡ true → isOperand (shortest z) ≡ true
