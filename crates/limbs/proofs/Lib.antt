@@ -3,3 +3,4 @@ pub mod WritesLaws
 pub mod NumberLaws
 pub mod LengthLaws
 pub mod ShiftLaws
+pub mod Cases

@@ -26,11 +26,11 @@ use Rattle.limbs.proofs.StageLaws.{operand-lengths}
 
 -- ---- the size of a result
 
-sized-done : (z : ℤ) → limbCount z ≤ 1024 → sized z ≡ done z
+pub sized-done : (z : ℤ) → limbCount z ≤ 1024 → sized z ≡ done z
 unfolding sized mostLimbs
 sized-done z h = passed 6 (done z) (le-leb (limbCount z) 1024 h)
 
-sized-refused : (z : ℤ) → 1024 < limbCount z → sized z ≡ refuse 6
+pub sized-refused : (z : ℤ) → 1024 < limbCount z → sized z ≡ refuse 6
 unfolding sized mostLimbs
 sized-refused z h = failed 6 (done z) (lt-leb (limbCount z) 1024 h)
 

@@ -52,20 +52,20 @@ pub fn store(
     }
 }
 
-// Limbs as they are, of which the first n are the shortest.
-pub fn store_limbs(x: &[u32], n: usize, out: &mut [u32], first: u64) -> Written
-    requires { ⌜ (0 < length (now x)) × (n < 2 ^ 32) ⌝ }
-    requires { ⌜ n ≡ limbCount (value (now x)) ⌝ }
+// Limbs as they are, of which the first `count` are the shortest.
+pub fn store_limbs(x: &[u32], count: usize, out: &mut [u32], first: u64) -> Written
+    requires { ⌜ (0 < length (now x)) × (count < 2 ^ 32) ⌝ }
+    requires { ⌜ count ≡ limbCount (value (now x)) ⌝ }
     ensures { λ r. ⌜ Writes (outcome.done (value (now (x .entry)))) (now (out .entry)) first r (now (out .exit)) ⌝ }
 {
-    if !has_capacity(out.len(), first, n) {
+    if !has_capacity(out.len(), first, count) {
         return refuse(8);
     }
     let at = first as usize;
-    copy(x, n, &mut out[at..]);
+    copy(x, count, &mut out[at..]);
     Written {
         refusal: 0,
-        length: n as u64,
+        length: count as u64,
     }
 }
 

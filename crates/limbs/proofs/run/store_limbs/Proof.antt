@@ -15,7 +15,7 @@ use Rattle.limbs.proofs.run.store_limbs.Tie as tie
 abbrev result : tie.Start → ℤ
 result a = value (a .args .x .now)
 
-capacity : (c : tie.Else1) → let a = c .before .before .before .before in a .args .n ≤ length (a .args .out .now) - a .args .first
+capacity : (c : tie.Else1) → let a = c .before .before .before .before in a .args .count ≤ length (a .args .out .now) - a .args .first
 capacity c = has-capacity (c .before .has-capacity .ensures) (c .if1 .left)
 
 within : (c : tie.Else1) → let a = c .before .before .before .before in a .args .first ≤ length (a .args .out .now)
