@@ -14,8 +14,10 @@ use Rattle.fixnum.specs.Operations.{every, one, two, three, four, minus, carry,
 use Rattle.fixnum.specs.Table.{rows, isCode, rowOf}
 use Rattle.fixnum.specs.Calls as calls
 use Rattle.limbwords.specs.Value.{onTop, value, limbsOf, limbCount, shortest}
-use Rattle.limbs.specs.Buffer.{unless, room, laid, fitsIn, written, afterwards, number}
-use Rattle.limbs.specs.Operations.{mostLimbs, isOperand, operand, field, sized, notOutcome, bitwiseOutcome, shiftOutcome, rotateOutcome, reverseOutcome, bitCountOutcome, lengthOutcome, firstBitSetOutcome}
+use Rattle.outcomes.specs.Outcome.{guard, guardAt, mapDone, refusalOf}
+use Rattle.outcomes.specs.Buffer.{capacity, laid, fitted, afterwards, countOf}
+use Rattle.limbs.specs.Buffer.{stored, written, number}
+use Rattle.limbs.specs.Operations.{mostLimbs, isOperand, operand, natural, isField, field, sized, notOutcome, bitwiseOutcome, shiftOutcome, rotateOutcome, reverseOutcome, bitCountOutcome, lengthOutcome, firstBitSetOutcome}
 use Rattle.cases.specs.Table.{given, stated, table}
 
 pub cases-M : map given table ≡ map stated table
@@ -23,6 +25,6 @@ unfolding odd testbit halvings bitLength consBit ofBits fits isNegative fill bit
     inField setField permuteField rotateIndex reverseIndex rotateBitField reverseBitField copyBitField copyBit onesBelow ones bitCount firstTrue firstBitSet
     answers.done answers.refuse answers.unless leastWidth largestWidth isWidth arg within accepts inDomainsFrom inDomains every one two three four minus carry copyBitAt
     rows isCode rowOf calls.counted calls.isCount calls.allFixnums calls.sized calls.outcome calls.fixnumAnswer
-    onTop value limbsOf limbCount shortest unless room laid fitsIn written afterwards number mostLimbs isOperand operand field sized
+    onTop value limbsOf limbCount shortest guard guardAt mapDone refusalOf capacity laid fitted afterwards countOf stored written number mostLimbs isOperand operand natural isField field sized
     notOutcome bitwiseOutcome shiftOutcome rotateOutcome reverseOutcome bitCountOutcome lengthOutcome firstBitSetOutcome given stated table
 cases-M = refl

@@ -15,14 +15,16 @@ use Rattle.fixnum.specs.Answers.{done, refuse}
 use Rattle.fixnum.specs.Calls.{fixnumAnswer}
 use Rattle.limbs.specs.declared.Written.{Written}
 use Rattle.limbs.specs.declared.Number.{Number}
-use Rattle.limbs.specs.Buffer.{Outcome, written, afterwards, number}
+use Rattle.outcomes.specs.Outcome.{Outcome}
+use Rattle.outcomes.specs.Buffer.{afterwards}
+use Rattle.limbs.specs.Buffer.{stored, written, number}
 use Rattle.limbs.specs.Operations.{notOutcome, bitwiseOutcome, shiftOutcome, rotateOutcome, reverseOutcome, bitCountOutcome, lengthOutcome, firstBitSetOutcome}
 
 -- fixnum: width, code, all arguments, answer; writes: a limb call, the limbs of its result; counts: a limb call, the number that it answers
 pub data Row : Type 0 where
   fixnum : ℕ → ℕ → List ℤ → Answer → Row
-  writes : Outcome → List ℕ → Row
-  counts : Outcome → ℤ → Row
+  writes : Outcome ℤ → List ℕ → Row
+  counts : Outcome ℤ → ℤ → Row
 
 pub data Reply : Type 0 where
   answered : Answer → Reply
@@ -35,7 +37,7 @@ sevens = 7 ∷ 7 ∷ 7 ∷ []
 
 unfoldable pub given : Row → Reply
 given (fixnum w code xs answer) = answered (fixnumAnswer w code xs (length xs))
-given (writes outcome xs) = wrote (written outcome (7 ∷ sevens) 1) (afterwards outcome (7 ∷ sevens) 1)
+given (writes outcome xs) = wrote (written outcome (7 ∷ sevens) 1) (afterwards (stored outcome (7 ∷ sevens) 1) (7 ∷ sevens) 1)
 given (counts outcome n) = counted (number outcome)
 
 -- The limbs before a result and after it stay the same.

@@ -7,7 +7,7 @@ use borrow.Author.Tests.{not-false}
 use Rattle.fixnum.specs.Domains.{isWidth}
 use Rattle.fixnum.proofs.CallLaws.{width-bounds}
 use Rattle.limbs.specs.Buffer.{number}
-use Rattle.limbs.proofs.OutcomeLaws.{failed-by}
+use Rattle.outcomes.proofs.OutcomeLaws.{failed-by}
 use Rattle.convert.specs.Convert.{toFixnumOutcome}
 use Rattle.convert.proofs.ConvertLaws.{no-word, large-word, small-word}
 use Rattle.convert.proofs.limbs_to_fixnum.Statement.{statement}
