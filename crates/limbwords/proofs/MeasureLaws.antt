@@ -5,7 +5,7 @@ use mathlib.Core.Path.{_≡_, refl, sym, ap, _∙_}
 use mathlib.Core.Bool.{Bool, true, false, cond, not}
 use lib.Dec.{eqb, ltb, lit<}
 use lib.IntN.{ℤ, pos}
-use borrow.Author.Tests.{ltb-true, ltb-false, eqb-true, eqb-false}
+use borrow.Author.Tests.{not-true, not-false, ltb-true, ltb-false, eqb-true, eqb-false}
 use Rattle.bits.specs.Testbit.{isNegative, testbit, bitLength}
 use Rattle.bits.proofs.TestbitLaws.{by-lt, testbit-above, testbit-zero}
 use Rattle.bits.proofs.ValueLaws.{testbit-mask}
@@ -102,18 +102,18 @@ module _ {z : ℤ} {enough n high low : ℕ} {padding : Bool} (e : Enough z enou
   tested : padding ≡ eqb (limbAt z (n - 1)) (continued (limbAt z (n - 2)))
   tested = cc (test, below, e .last)
 
-  pub one-less : padding ≡ true → Enough z enough (n - 1) low
+  pub one-less : not padding ≡ false → Enough z enough (n - 1) low
   one-less q =
       let same : n - 2 ≡ n - 1 - 1 = omega arith in
       record {
         some = omega arith;
         most = omega (arith, e .most);
-        size = shorter-by-one z n p (e .size) (eqb-true _ _ (sym tested ∙ q));
+        size = shorter-by-one z n p (e .size) (eqb-true _ _ (sym tested ∙ not-false _ q));
         last = below ∙ ap (limbAt z) same;
       }
 
-  pub counted : padding ≡ false → n ≡ limbCount z
-  counted q = settled-at z n p (e .size) (eqb-false _ _ (sym tested ∙ q))
+  pub counted : not padding ≡ true → n ≡ limbCount z
+  counted q = settled-at z n p (e .size) (eqb-false _ _ (sym tested ∙ not-true _ q))
 
 -- one limb is the least
 pub one-limb : (z : ℤ) → bitLength z < 32 * 1 → 1 ≡ limbCount z

@@ -16,15 +16,15 @@ abbrev μ-loop : tie.MeasureT-loop
 loop-holds : tie.Need-loop-holds Inv-loop μ-loop
 loop-holds c = let p = c .before .before .before .before .pre .1 .1 .1 in all-enough (p .0 .1 .0) (p .1) (c .limb-of .ensures)
 
-loop-again : tie.Need-loop-again Inv-loop μ-loop
-loop-again c =
-    let t = c .before .before .before in
-    one-less (t .before .loop .inv) (t .loop-test .taken) (c .before .before .limb-of2 .ensures) (c .before .is-padding .ensures) (c .if1 .taken)
-
 returns : tie.Need-returns Inv-loop μ-loop
 returns c =
     let t = c .before .before .before in
-    counted (t .before .loop .inv) (t .loop-test .taken) (c .before .before .limb-of2 .ensures) (c .before .is-padding .ensures) (c .if1 .left)
+    counted (t .before .loop .inv) (t .loop-test .taken) (c .before .before .limb-of2 .ensures) (c .before .is-padding .ensures) (c .if1 .taken)
+
+loop-again : tie.Need-loop-again Inv-loop μ-loop
+loop-again c =
+    let t = c .before .before .before in
+    one-less (t .before .loop .inv) (t .loop-test .taken) (c .before .before .limb-of2 .ensures) (c .before .is-padding .ensures) (c .if1 .left)
 
 returns-2 : tie.Need-returns-2 Inv-loop μ-loop
 returns-2 c = counted-one (c .before .loop .inv) (omega arith)
@@ -41,8 +41,8 @@ measure-any-spec =
     (λ c. omega arith)
     (λ c κs. let p = c .before .before .before .before .before .before .pre in (p .0, (p .1 .0, (p .1 .1 .0, (p .1 .1 .1 .0 .0, omega arith)))))
     (λ c κs. search needs)
+    returns
     (λ c. omega arith)
     (λ c. omega arith)
     loop-again
-    returns
     returns-2)

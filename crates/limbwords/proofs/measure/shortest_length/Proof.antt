@@ -1,7 +1,8 @@
 -- `limbwords::measure::shortest_length` meets its contract, turn by turn. Assumes nothing.
 use Prim.Native.Nat.{_-_}
 use native.Mathlib.Omega.{arith}
-use mathlib.Core.Path.{_≡_}
+use mathlib.Core.Path.{_≡_, ap}
+use mathlib.Core.Bool.{not}
 use lib.ListN.{length, getD}
 use borrow.Author.Needs.{needs}
 use Rattle.limbwords.specs.Value.{value, limbAt}
@@ -32,10 +33,10 @@ loop-again : tie.Need-loop-again Inv-loop μ-loop
 loop-again c =
     let l = turn (c .before) in
     let same : l .loop .n - 2 ≡ l .loop .n - 1 - 1 = omega arith in
-    rw (← same) (one-less (l .loop .inv) (omega arith) (below (c .before)) (c .before .is-padding .ensures) (c .if1 .taken))
+    rw (← same) (one-less (l .loop .inv) (omega arith) (below (c .before)) (c .before .is-padding .ensures) (ap not (c .if1 .taken)))
 
 returns : tie.Need-returns Inv-loop μ-loop
-returns c = counted (turn (c .before) .loop .inv) (omega arith) (below (c .before)) (c .before .is-padding .ensures) (c .if1 .left)
+returns c = counted (turn (c .before) .loop .inv) (omega arith) (below (c .before)) (c .before .is-padding .ensures) (ap not (c .if1 .left))
 
 returns-2 : tie.Need-returns-2 Inv-loop μ-loop
 returns-2 c = counted-one (c .before .loop .inv) (omega arith)
