@@ -1,15 +1,12 @@
-// The loops over the arguments up to the count: whether each is a fixnum, and a fold from the left.
+// A fold from the left of the arguments up to the count.
 ghost use mathlib.Core.Path.{_≡_};
 ghost use Prim.Native.Nat.{_≤_};
-ghost use Rattle.fxtable.specs.Domains.{isWidth};
 ghost use Rattle.fxtable.specs.Operations as operations;
 ghost use Rattle.fxtable.specs.Folds.{step};
-ghost use Rattle.fxtable.specs.Calls.{counted, allFixnums};
-ghost use mathlib.Core.Bool.{true};
+ghost use Rattle.fxtable.specs.Calls.{counted};
 use words::logical::and;
 use words::logical::ior;
 use words::logical::xor;
-use words::sign::is_fixnum;
 
 pub enum Fold {
     Largest,
@@ -17,20 +14,6 @@ pub enum Fold {
     And,
     Ior,
     Xor,
-}
-
-pub fn all_fixnums(width: u64, args: [i64; 4], count: u64) -> bool
-    requires { ⌜ (isWidth width ≡ true) × (count ≤ 4) ⌝ }
-    ensures { λ r. ⌜ r ≡ allFixnums width (counted args count) ⌝ }
-{
-    let mut i: u64 = 0;
-    while i < count {
-        if !is_fixnum(width, args[i as usize]) {
-            return false;
-        }
-        i += 1;
-    }
-    true
 }
 
 fn combine(fold: Fold, x: i64, y: i64) -> i64

@@ -1,4 +1,4 @@
--- `fxtable::loops::fold_all` meets its contract. The invariant: the answer is the fold of the arguments from i on, from the present value.
+-- `fxtable::fold::fold_all` meets its contract. The invariant: the answer is the fold of the arguments from i on, from the present value.
 -- Assumes nothing.
 use Prim.Native.Nat.{_+_, _-_, _≤_}
 use native.Mathlib.Omega.{arith}
@@ -14,8 +14,8 @@ use Rattle.fxtable.specs.Operations.{foldFrom}
 use Rattle.fxtable.specs.Folds.{step}
 use Rattle.fxtable.specs.Calls.{counted}
 use Rattle.fxtable.proofs.LoopLaws.{fold-step, fold-two, rest-none}
-use Rattle.fxtable.proofs.loops.fold_all.Statement.{statement}
-use Rattle.fxtable.proofs.loops.fold_all.Tie as tie
+use Rattle.fxtable.proofs.fold.fold_all.Statement.{statement}
+use Rattle.fxtable.proofs.fold.fold_all.Tie as tie
 
 abbrev Inv-loop : tie.InvT-loop
 Inv-loop fold first count args value₀ i₀ value i =
