@@ -6,7 +6,7 @@ use lib.IntN.{ℤ, pos, negsuc}
 use Rattle.bits.specs.Testbit.{odd, testbit, halvings, bitLength, consBit, ofBits, fits, fill}
 use Rattle.bits.specs.Shift.{floorDiv, shiftRight}
 use Rattle.bits.specs.Division.{modℕ}
-use Rattle.fixnum.specs.Domains.{leastWidth, largestWidth, isWidth}
+use Rattle.fxtable.specs.Domains.{leastWidth, largestWidth, isWidth}
 use Rattle.limbwords.specs.Value.{onTop, value, limbsOf, limbCount, shortest}
 use Rattle.outcomes.specs.Outcome.{Outcome, guard, guardAt, mapDone, refusalOf}
 use Rattle.outcomes.specs.Buffer.{capacity, laid, fitted, afterwards, countOf}

@@ -11,8 +11,8 @@ use mir.Val.{toZ, ofZ}
 use borrow.Author.Tests.{lt-ltb, not-true, not-false}
 use Rattle.bits.specs.Testbit.{fits}
 use Rattle.words.proofs.WordLaws.{back-word, fits-mag}
-use Rattle.fixnum.specs.Domains.{isWidth}
-use Rattle.fixnum.proofs.CallLaws.{fits-word}
+use Rattle.fxtable.specs.Domains.{isWidth}
+use Rattle.fxtable.proofs.CallLaws.{fits-word}
 use Rattle.limbwords.specs.Value.{value}
 use Rattle.limbs.specs.declared.Number.{Number}
 use Rattle.outcomes.specs.Outcome.{Outcome, refused, done, refuse, guard, guardAt}

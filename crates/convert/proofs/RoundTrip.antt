@@ -10,8 +10,8 @@ use lib.ListN.{length}
 use Rattle.bits.specs.Testbit.{fits}
 use Rattle.bits.proofs.LengthLaws.{fits-length, fits-mono}
 use Rattle.bits.proofs.FitsLaws.{is-true, holds}
-use Rattle.fixnum.specs.Domains.{isWidth}
-use Rattle.fixnum.proofs.CallLaws.{width-bounds}
+use Rattle.fxtable.specs.Domains.{isWidth}
+use Rattle.fxtable.proofs.CallLaws.{width-bounds}
 use Rattle.limbwords.specs.Value.{value, shortest}
 use Rattle.limbwords.proofs.ValueLaws.{value-shortest, length-shortest, limbCount-le}
 use Rattle.limbs.specs.declared.Number.{Number}

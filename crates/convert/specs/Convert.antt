@@ -7,7 +7,7 @@ use mathlib.Core.List.{List}
 use lib.IntN.{ℤ}
 use lib.ListN.{take, drop}
 use Rattle.bits.specs.Testbit.{fits}
-use Rattle.fixnum.specs.Domains.{isWidth}
+use Rattle.fxtable.specs.Domains.{isWidth}
 use Rattle.limbwords.specs.Value.{value}
 use Rattle.limbs.specs.declared.Written.{Written}
 use Rattle.outcomes.specs.Outcome.{Outcome, done, guard}

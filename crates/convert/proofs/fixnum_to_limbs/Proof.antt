@@ -6,8 +6,8 @@ use borrow.Author.Needs.{needs}
 use borrow.Author.Tests.{not-false}
 use Rattle.bits.specs.Testbit.{fits}
 use Rattle.words.proofs.WordLaws.{back}
-use Rattle.fixnum.specs.Domains.{isWidth}
-use Rattle.fixnum.proofs.CallLaws.{width-bounds}
+use Rattle.fxtable.specs.Domains.{isWidth}
+use Rattle.fxtable.proofs.CallLaws.{width-bounds}
 use Rattle.outcomes.specs.Outcome.{done}
 use Rattle.outcomes.proofs.OutcomeLaws.{passed, failed-by, passed-by}
 use Rattle.limbs.proofs.WritesLaws.{writes-refused, writes-as}
