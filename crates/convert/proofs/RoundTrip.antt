@@ -7,7 +7,6 @@ use mathlib.Core.List.{List}
 use lib.Dec.{lit<}
 use lib.IntN.{ℤ}
 use lib.ListN.{length}
-use borrow.Author.Tests.{le-leb}
 use Rattle.bits.specs.Testbit.{fits}
 use Rattle.bits.proofs.LengthLaws.{fits-length, fits-mono}
 use Rattle.bits.proofs.FitsLaws.{is-true, holds}
@@ -17,9 +16,9 @@ use Rattle.limbwords.specs.Value.{value, shortest}
 use Rattle.limbwords.proofs.ValueLaws.{value-shortest, length-shortest, limbCount-le}
 use Rattle.limbs.specs.declared.Number.{Number}
 use Rattle.limbs.specs.declared.Written.{Written}
-use Rattle.outcomes.specs.Outcome.{Outcome, refused, done, refuse, guard, guardAt, mapDone, refusalOf}
+use Rattle.outcomes.specs.Outcome.{Outcome, done, refuse, guard, guardAt, mapDone, refusalOf}
 use Rattle.outcomes.specs.Buffer.{capacity, fitted, countOf}
-use Rattle.outcomes.proofs.OutcomeLaws.{passed, stage-passed, done-injective}
+use Rattle.outcomes.proofs.OutcomeLaws.{passed, stage-passed}
 use Rattle.outcomes.proofs.BufferLaws.{fitted-room}
 use Rattle.limbs.specs.Buffer.{stored, written, Writes, number}
 use Rattle.limbs.specs.Operations.{isOperand, operand}

@@ -3,7 +3,7 @@ use Prim.Native.Nat.{ℕ, zero-le, _-_, _≤_, _<_, _^_}
 use native.Mathlib.Nat.{le-trans, le-of-lt, lt-of-lt-of-le}
 use native.Mathlib.Omega.{arith}
 use mathlib.Core.Path.{_≡_, refl, sym, ap, ap₂, _∙_, subst}
-use mathlib.Core.Bool.{Bool, true, false, cond, not, _&&_, _||_, true≢false}
+use mathlib.Core.Bool.{Bool, true, false, cond, not, _||_, true≢false}
 use mathlib.Core.List.{List, [], _∷_}
 use lib.Dec.{eqb, leb, lit<}
 use lib.IntN.{ℤ, pos}
@@ -25,7 +25,7 @@ use Rattle.limbwords.specs.Value.{value, shortest}
 use Rattle.outcomes.specs.Outcome.{Outcome, done, guard, guardAt, mapDone, refusalOf}
 use Rattle.outcomes.specs.Buffer.{capacity, fitted, afterwards, countOf}
 use Rattle.outcomes.proofs.OutcomeLaws.{passed, done-injective}
-use Rattle.outcomes.proofs.BufferLaws.{fitted-room, fitted-no-room, laid-copy}
+use Rattle.outcomes.proofs.BufferLaws.{laid-copy}
 use Rattle.limbs.specs.Buffer.{stored, written}
 use Rattle.limbs.specs.Operations.{mostLimbs, isOperand, isField, field, notOutcome, bitwiseOutcome, rotateOutcome, reverseOutcome, bitCountOutcome, natural}
 use Rattle.limb_laws.specs.Lists.{Step, callsOf, outcomeOf, answerOf, handOn, hasRoom, runSteps, isDone, anyDone, resultOf, turned, ample, Run, ListStatement}

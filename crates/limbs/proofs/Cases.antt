@@ -16,7 +16,7 @@ use Rattle.bits.specs.Field.{inField, setField, permuteField, rotateIndex, reve
 use Rattle.bits.specs.Count.{onesBelow, ones, bitCount, firstTrue, firstBitSet}
 use Rattle.bits.specs.Range.{within}
 use Rattle.bits.proofs.LengthBounds.{shiftLeft-length-exact}
-use Rattle.outcomes.specs.Outcome.{Outcome, refused, done, refuse, guard, guardAt, mapDone, refusalOf}
+use Rattle.outcomes.specs.Outcome.{Outcome, done, refuse, guard, guardAt, mapDone, refusalOf}
 use Rattle.outcomes.specs.Buffer.{capacity, laid, fitted, afterwards, countOf}
 use Rattle.outcomes.proofs.OutcomeLaws.{passed}
 use Rattle.limbwords.proofs.ValueLaws.{pos-injective}

@@ -1,7 +1,7 @@
 -- The stages of a limb call: an operand that is legal or not, and the numbers that a check has found legal. Assumes nothing.
 use Prim.Native.Nat.{ℕ, zero-le, _≤_, _<_}
 use native.Mathlib.Omega.{arith}
-use mathlib.Core.Path.{_≡_, refl, sym, ap, ap₂, _∙_}
+use mathlib.Core.Path.{_≡_, refl, sym, ap, _∙_}
 use mathlib.Core.Bool.{Bool, true, false, not, _&&_, true≢false}
 use mathlib.Core.List.{List, [], _∷_}
 use lib.Dec.{leb}
@@ -9,14 +9,14 @@ use lib.IntN.{ℤ, pos, negsuc, natAbs}
 use lib.ListN.{length}
 use lib.Signed.{leZ}
 use borrow.Author.Tests.{le-leb, leb-true, not-true, not-false}
-use Rattle.bits.specs.Logical.{bitwise, bitwiseNot}
+use Rattle.bits.specs.Logical.{bitwise}
 use Rattle.bits.specs.Range.{within}
 use Rattle.bits.proofs.Booleans.{both-left, both-right}
 use Rattle.bits.proofs.LogicalLaws.{not-bitwise}
 use mir.Syntax.{w64}
 use mir.Val.{SFits, toZ, ofZ}
 use Rattle.words.proofs.WordLaws.{back, natural-pos}
-use Rattle.outcomes.specs.Outcome.{Outcome, refused, done, refuse, guard, guardAt, mapDone}
+use Rattle.outcomes.specs.Outcome.{Outcome, done, refuse, guard, guardAt}
 use Rattle.outcomes.proofs.OutcomeLaws.{passed, failed, guard-twice, stage-passed, stages, stages-refused, stages-value, stages-passed}
 use Rattle.limbwords.specs.Value.{value}
 use Rattle.limbs.specs.declared.check.Natural.{Natural}

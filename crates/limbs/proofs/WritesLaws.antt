@@ -19,7 +19,7 @@ use Rattle.outcomes.specs.Outcome.{Outcome, done, refuse, mapDone, refusalOf}
 use Rattle.outcomes.specs.Buffer.{fitted, afterwards, countOf, Puts}
 use Rattle.outcomes.proofs.BufferLaws.{fitted-room, fitted-no-room, laid-part, read-back, countOf-room, afterwards-length}
 use Rattle.limbwords.specs.Value.{bitsFrom, limbAt, limbsOf, limbCount, shortest}
-use Rattle.limbwords.proofs.ValueLaws.{length-limbsOf, length-shortest, limbCount-positive}
+use Rattle.limbwords.proofs.ValueLaws.{length-shortest, limbCount-positive}
 use Rattle.limbs.specs.declared.Written.{Written}
 use Rattle.limbs.specs.Buffer.{stored, refusal, written, Writes}
 use Rattle.limbs.specs.Operations.{mostLimbs, isOperand}

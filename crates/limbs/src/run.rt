@@ -44,8 +44,8 @@ pub fn store(
     if !has_capacity(out.len(), first, n) {
         return refuse(8);
     }
-    let at = first as usize;
-    write(operation, x, y, z, n, &mut out[at..]);
+    let from = first as usize;
+    write(operation, x, y, z, n, &mut out[from..]);
     Written {
         refusal: 0,
         length: n as u64,

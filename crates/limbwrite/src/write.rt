@@ -4,7 +4,7 @@ ghost use Prim.Native.Nat.{_-_, _<_, _≤_, _^_};
 ghost use lib.IntN.{pos};
 ghost use lib.ListN.{length};
 ghost use Rattle.bits.specs.Shift.{shiftLeft, shiftRight};
-ghost use Rattle.bits.specs.Field.{bitField, copyBitField, rotateBitField};
+ghost use Rattle.bits.specs.Field.{bitField, copyBitField, rotateBitField, reverseBitField};
 ghost use Rattle.limbwords.specs.Value.{value, limbAt};
 ghost use Rattle.outcomes.specs.Buffer.{Puts};
 ghost use Rattle.limbwrite.specs.Inner.{Moved};
@@ -16,6 +16,7 @@ use super::logical::write_logical;
 use super::segment::put_limbs;
 use super::segment::put_windows;
 use super::segment::put_zeros;
+use limbwords::field::reverse_limb;
 use limbwords::result::Operation;
 
 // Bits of the result, from one position up to another, that are bits of an operand: `up` places higher there and `down` lower.
@@ -180,7 +181,20 @@ fn write_rotate(x: &[u32], start: u64, end: u64, by: u64, n: usize, part: &mut [
     put_limbs(operation, x, x, x, rest, n, part);
 }
 
-// The first n limbs, by the operation's own writer where it has one; reverse has none.
+fn write_reverse(x: &[u32], start: u64, end: u64, n: usize, part: &mut [u32])
+    requires { ⌜ 0 < length (now x) ⌝ }
+    requires { ⌜ (start ≤ end) × (end < 2 ^ 32) ⌝ }
+    requires { ⌜ (n ≤ length (now part)) × (n < 2 ^ 32) ⌝ }
+    ensures { λ r. ⌜ Puts 0 (limbAt (reverseBitField (value (now (x .entry))) start end)) (now (part .entry)) (now (part .exit)) 0 n ⌝ }
+{
+    let mut j = 0;
+    while j < n {
+        part[j] = reverse_limb(x, start, end, j);
+        j += 1;
+    }
+}
+
+// The first n limbs, by the operation's own writer.
 pub fn write(operation: Operation, x: &[u32], y: &[u32], z: &[u32], n: usize, part: &mut [u32])
     requires { ⌜ 0 < length (now x) ⌝ }
     requires { ⌜ 0 < length (now y) ⌝ }
@@ -197,6 +211,6 @@ pub fn write(operation: Operation, x: &[u32], y: &[u32], z: &[u32], n: usize, pa
         Operation::Field { start, end } => write_field(x, start, end, n, part),
         Operation::CopyField { start, end } => write_copy_field(x, y, start, end, n, part),
         Operation::Rotate { start, end, by } => write_rotate(x, start, end, by, n, part),
-        _ => put_limbs(operation, x, y, z, 0, n, part),
+        Operation::Reverse { start, end } => write_reverse(x, start, end, n, part),
     }
 }

@@ -13,9 +13,6 @@ returns : tie.Need-returns
 unfolding bitCountOutcome
 returns c = refused-operand _ _ (c .before .before .is-operand .ensures) (c .before .if1 .taken) (c .refuse-number .ensures)
 
-bit-count-requires : tie.Need-bit-count-requires
-bit-count-requires c κs = operand-lengths _ (legal (c .before .is-operand .ensures) (c .if1 .left))
-
 returns-2 : tie.Need-returns-2
 unfolding bitCountOutcome
 returns-2 c =
@@ -30,6 +27,6 @@ bitwise-bit-count-spec =
     (λ c κs. search needs)
     (λ c κs. search needs)
     returns
-    bit-count-requires
+    (λ c κs. operand-lengths _ (legal (c .before .is-operand .ensures) (c .if1 .left)))
     (λ c κs. search needs)
     returns-2)

@@ -20,9 +20,6 @@ legal-field c =
     let a = c .before .before .before .before .before in
     field-legal (a .args .x .now) (a .args .x .now) (a .fits .start) (a .fits .end) (c .before .before .check-field .ensures) (c .start .given .1) .0
 
-sub-enough : tie.Need-sub-enough
-sub-enough c = legal-field (c .before) .order
-
 run-requires : tie.Need-run-requires
 unfolding meaning Proper
 run-requires c κs =
@@ -50,7 +47,7 @@ bitwise-bit-field-spec =
     (tie.spec
     (λ c κs. search needs)
     (λ c. search needs)
-    sub-enough
+    (λ c. legal-field (c .before) .order)
     (λ c. search needs)
     run-requires
     (λ c. search needs)

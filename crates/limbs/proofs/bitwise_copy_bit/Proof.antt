@@ -1,6 +1,6 @@
 -- `limbs::bitwise_copy_bit` meets its contract. Assumes nothing.
 use native.Mathlib.Omega.{arith}
-use Prim.Native.Nat.{ℕ, _+_, _≤_}
+use Prim.Native.Nat.{ℕ}
 use native.Mathlib.Numerals.{add-one}
 use mathlib.Core.Path.{refl, sym, ap₂, _∙_}
 use lib.IntN.{ℤ}
@@ -20,9 +20,6 @@ use Rattle.limbs.proofs.bitwise_copy_bit.Tie as tie
 legal-bit : (c : tie.After-position) → let a = c .before .before .before .before .before in
     LegalBit (a .args .x .now) (a .args .position) (a .args .bit) (c .position .given .0 .0) (c .position .given .0 .1 .0)
 legal-bit c = let a = c .before .before .before .before .before in new-bit-legal (a .args .x .now) (a .fits .position) (a .fits .bit) (c .before .before .check-new-bit .ensures) (c .position .given .1) .0
-
-add-end : tie.Need-add-end
-add-end c = record { fits = omega (arith, legal-bit (c .before) .last) }
 
 run-field-requires : tie.Need-run-field-requires
 unfolding meaning Proper isOperand mostLimbs
@@ -56,7 +53,7 @@ bitwise-copy-bit-spec =
     (tie.spec
     (λ c κs. search needs)
     (λ c. search needs)
-    add-end
+    (λ c. record { fits = omega (arith, legal-bit (c .before) .last) })
     (λ c. search needs)
     run-field-requires
     (λ c. search needs)

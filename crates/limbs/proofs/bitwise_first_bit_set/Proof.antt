@@ -13,9 +13,6 @@ returns : tie.Need-returns
 unfolding firstBitSetOutcome
 returns c = refused-operand _ _ (c .before .before .is-operand .ensures) (c .before .if1 .taken) (c .refuse-number .ensures)
 
-first-bit-set-requires : tie.Need-first-bit-set-requires
-first-bit-set-requires c κs = operand-lengths _ (legal (c .before .is-operand .ensures) (c .if1 .left))
-
 returns-2 : tie.Need-returns-2
 unfolding firstBitSetOutcome
 returns-2 c =
@@ -30,6 +27,6 @@ bitwise-first-bit-set-spec =
     (λ c κs. search needs)
     (λ c κs. search needs)
     returns
-    first-bit-set-requires
+    (λ c κs. operand-lengths _ (legal (c .before .is-operand .ensures) (c .if1 .left)))
     (λ c κs. search needs)
     returns-2)

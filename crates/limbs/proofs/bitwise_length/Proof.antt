@@ -16,9 +16,6 @@ returns : tie.Need-returns
 unfolding lengthOutcome
 returns c = refused-operand _ _ (c .before .before .is-operand .ensures) (c .before .if1 .taken) (c .refuse-number .ensures)
 
-bit-length-requires : tie.Need-bit-length-requires
-bit-length-requires c κs = operand-lengths _ (legal (c .before .is-operand .ensures) (c .if1 .left))
-
 cast-done : tie.Need-cast-done
 cast-done c =
     let e = c .before in
@@ -39,7 +36,7 @@ bitwise-length-spec =
     (λ c κs. search needs)
     (λ c κs. search needs)
     returns
-    bit-length-requires
+    (λ c κs. operand-lengths _ (legal (c .before .is-operand .ensures) (c .if1 .left)))
     cast-done
     (λ c κs. search needs)
     returns-2)

@@ -8,7 +8,7 @@ use Rattle.outcomes.specs.Outcome.{done}
 use Rattle.limbwords.specs.Value.{value}
 use Rattle.limbwords.specs.Results.{meaning, Proper}
 use Rattle.limbs.specs.Operations.{reverseOutcome}
-use Rattle.limbs.proofs.StageLaws.{operand-twice, LegalField, field-refused, field-legal}
+use Rattle.limbs.proofs.StageLaws.{operand-twice, field-refused, field-legal}
 use Rattle.limbs.proofs.WritesLaws.{writes-as, writes-refused}
 use borrow.Author.Needs.{needs}
 use Rattle.limbs.proofs.bitwise_reverse.Statement.{statement}

@@ -1,8 +1,8 @@
 -- `limbs::bitwise_rotate` meets its contract. Assumes nothing.
 use native.Mathlib.Omega.{arith}
 use Prim.Native.Nat.{ℕ}
-use mathlib.Core.Path.{_≡_, ap, ap₂, _∙_}
-use lib.IntN.{ℤ, pos}
+use mathlib.Core.Path.{ap, ap₂, _∙_}
+use lib.IntN.{ℤ}
 use Rattle.bits.specs.Field.{rotateBitField}
 use Rattle.bits.proofs.LengthBounds.{rotateBitField-length}
 use Rattle.bits.proofs.RotationCounts.{reduced-le, rotate-reduced}
@@ -21,9 +21,6 @@ legal-field : (c : tie.After-start) → let a = c .before .before .before .befor
 legal-field c =
     let a = c .before .before .before .before .before in
     rotation-legal (a .args .x .now) (a .fits .start) (a .fits .end) (a .fits .count) (c .before .before .check-rotation .ensures) (c .start .given .1) .0
-
-sub-reduced : tie.Need-sub-reduced
-sub-reduced c = legal-field (c .before) .order
 
 run-field-requires : tie.Need-run-field-requires
 unfolding meaning Proper
@@ -58,7 +55,7 @@ bitwise-rotate-spec =
     (tie.spec
     (λ c κs. search needs)
     (λ c. search needs)
-    sub-reduced
+    (λ c. legal-field (c .before) .order)
     (λ c κs. search needs)
     run-field-requires
     (λ c. search needs)

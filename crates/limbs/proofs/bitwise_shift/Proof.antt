@@ -1,8 +1,8 @@
 -- `limbs::bitwise_shift` meets its contract. Assumes nothing.
 use Prim.Native.Nat.{ℕ}
-use mathlib.Core.Path.{_≡_, refl, sym, ap, _∙_}
-use mathlib.Core.Bool.{true, false, not}
-use lib.IntN.{pos, natAbs}
+use mathlib.Core.Path.{refl, sym, ap, _∙_}
+use mathlib.Core.Bool.{not}
+use lib.IntN.{natAbs}
 use mir.Syntax.{w64}
 use mir.Val.{toZ, ofZ}
 use Rattle.bits.specs.Shift as shift
@@ -20,18 +20,6 @@ use Rattle.limbs.proofs.bitwise_shift.Tie as tie
 returns : tie.Need-returns
 unfolding shiftOutcome
 returns c = writes-refused _ _ (operand-failed _ _ (illegal (c .before .before .is-operand .ensures) (c .before .if1 .taken))) (c .refuse .ensures)
-
-negated-requires : tie.Need-negated-requires
-negated-requires c κs = position-tested (toZ w64 (ofZ w64 (c .before .before .before .before .before .args .distance))) refl ∙ ap not (c .if2 .taken)
-
-shift-right-requires : tie.Need-shift-right-requires
-shift-right-requires c κs = legal (c .before .before .before .before .is-operand .ensures) (c .before .before .before .if1 .left)
-
-natural-requires : tie.Need-natural-requires
-natural-requires c κs = position-tested (toZ w64 (ofZ w64 (c .before .before .before .before .before .args .distance))) refl ∙ ap not (c .if2 .left)
-
-shift-left-requires : tie.Need-shift-left-requires
-shift-left-requires c κs = legal (c .before .before .before .before .is-operand .ensures) (c .before .before .before .if1 .left)
 
 returns-2 : tie.Need-returns-2
 unfolding shiftOutcome
@@ -63,10 +51,10 @@ bitwise-shift-spec =
     (λ c κs. search needs)
     (λ c κs. search needs)
     returns
-    negated-requires
-    shift-right-requires
-    natural-requires
-    shift-left-requires
+    (λ c κs. position-tested (toZ w64 (ofZ w64 (c .before .before .before .before .before .args .distance))) refl ∙ ap not (c .if2 .taken))
+    (λ c κs. legal (c .before .before .before .before .is-operand .ensures) (c .before .before .before .if1 .left))
+    (λ c κs. position-tested (toZ w64 (ofZ w64 (c .before .before .before .before .before .args .distance))) refl ∙ ap not (c .if2 .left))
+    (λ c κs. legal (c .before .before .before .before .is-operand .ensures) (c .before .before .before .if1 .left))
     (λ c. search needs)
     returns-2
     (λ c. search needs)

@@ -15,9 +15,6 @@ returns : tie.Need-returns
 unfolding wordOutcome
 returns c = refused-operand _ _ (c .before .before .is-operand .ensures) (c .before .if1 .taken) (c .refuse-number .ensures)
 
-bit-length-requires : tie.Need-bit-length-requires
-bit-length-requires c κs = operand-lengths _ (legal (c .before .is-operand .ensures) (c .if1 .left))
-
 returns-2 : tie.Need-returns-2
 unfolding wordOutcome
 returns-2 c =
@@ -43,7 +40,7 @@ to-word-spec =
     (λ c κs. search needs)
     (λ c κs. search needs)
     returns
-    bit-length-requires
+    (λ c κs. operand-lengths _ (legal (c .before .is-operand .ensures) (c .if1 .left)))
     (λ c κs. search needs)
     returns-2
     word-requires

@@ -26,12 +26,6 @@ returns-2 : tie.Need-returns-2
 unfolding fieldOf field
 returns-2 c = sym (operands-passed _ _ _ (legal (c .before .before .before .are-operands .ensures) (c .before .before .if1 .left)) ∙ failed-by 5 _ (tested (c .before)) (c .if2 .taken))
 
-cast-t7 : tie.Need-cast-t7
-cast-t7 c = let f = c .before .before .before .before .before .before .fits .start in cast-word (back f ∙ natural-mag _ (numbers c .from)) (f .sfits)
-
-cast-t8 : tie.Need-cast-t8
-cast-t8 c = let f = c .before .before .before .before .before .before .fits .end in cast-word (back f ∙ natural-mag _ (numbers c .to)) (f .sfits)
-
 returns-3 : tie.Need-returns-3
 unfolding fieldOf field
 returns-3 c =
@@ -42,4 +36,4 @@ returns-3 c =
 pub check-field-spec : {M : Type 1} → statement M
 check-field-spec =
     tie.close
-    (tie.spec (λ c κs. search needs) returns (λ c κs. search needs) returns-2 cast-t7 cast-t8 returns-3)
+    (tie.spec (λ c κs. search needs) returns (λ c κs. search needs) returns-2 (λ c. let f = c .before .before .before .before .before .before .fits .start in cast-word (back f ∙ natural-mag _ (numbers c .from)) (f .sfits)) (λ c. let f = c .before .before .before .before .before .before .fits .end in cast-word (back f ∙ natural-mag _ (numbers c .to)) (f .sfits)) returns-3)

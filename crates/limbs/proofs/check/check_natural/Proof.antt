@@ -25,9 +25,6 @@ returns-2 c =
 natural-n : (c : tie.Else2) → leZ (pos 0) (c .before .before .before .before .args .n) ≡ true
 natural-n c = position-tested _ (back (c .before .before .before .before .fits .n)) ∙ ap not (c .if2 .left)
 
-cast-t5 : tie.Need-cast-t5
-cast-t5 c = let f = c .before .before .before .before .fits .n in cast-word (back f ∙ natural-mag _ (natural-n c)) (f .sfits)
-
 returns-3 : tie.Need-returns-3
 unfolding naturalOf natural
 returns-3 c =
@@ -35,4 +32,4 @@ returns-3 c =
     ∙ sym (operand-passed _ _ (legal (c .before .before .is-operand .ensures) (c .before .if1 .left)) ∙ passed 5 _ (natural-n c))
 
 pub check-natural-spec : {M : Type 1} → statement M
-check-natural-spec = tie.close (tie.spec (λ c κs. search needs) returns returns-2 cast-t5 returns-3)
+check-natural-spec = tie.close (tie.spec (λ c κs. search needs) returns returns-2 (λ c. let f = c .before .before .before .before .fits .n in cast-word (back f ∙ natural-mag _ (natural-n c)) (f .sfits)) returns-3)

@@ -40,15 +40,6 @@ returns-3 c =
     ∙ passed-by 5 _ (tested (c .before .before)) (c .before .if2 .left)
     ∙ failed 5 _ (position-tested _ (back (c .before .before .before .before .before .before .fits .count)) ∙ ap not (c .if3 .taken)))
 
-cast-t7 : tie.Need-cast-t7
-cast-t7 c = let f = c .before .before .before .before .before .before .fits .start in cast-word (back f ∙ natural-mag _ (numbers (c .before) .from)) (f .sfits)
-
-cast-t8 : tie.Need-cast-t8
-cast-t8 c = let f = c .before .before .before .before .before .before .fits .end in cast-word (back f ∙ natural-mag _ (numbers (c .before) .to)) (f .sfits)
-
-cast-t9 : tie.Need-cast-t9
-cast-t9 c = let f = c .before .before .before .before .before .before .fits .count in cast-word (back f ∙ natural-mag _ (natural-count c)) (f .sfits)
-
 returns-4 : tie.Need-returns-4
 unfolding rotationOf field natural
 returns-4 c =
@@ -69,7 +60,7 @@ check-rotation-spec =
     (λ c κs. search needs)
     returns-2
     returns-3
-    cast-t7
-    cast-t8
-    cast-t9
+    (λ c. let f = c .before .before .before .before .before .before .fits .start in cast-word (back f ∙ natural-mag _ (numbers (c .before) .from)) (f .sfits))
+    (λ c. let f = c .before .before .before .before .before .before .fits .end in cast-word (back f ∙ natural-mag _ (numbers (c .before) .to)) (f .sfits))
+    (λ c. let f = c .before .before .before .before .before .before .fits .count in cast-word (back f ∙ natural-mag _ (natural-count c)) (f .sfits))
     returns-4)

@@ -21,14 +21,8 @@ capacity c = has-capacity (c .before .has-capacity .ensures) (c .if1 .left)
 within : (c : tie.Else1) → let a = c .before .before .before .before in a .args .first ≤ length (a .args .out .now)
 within c = let a = c .before .before .before .before in first-within (result a) (a .pre .1) (capacity c)
 
-has-capacity-requires : tie.Need-has-capacity-requires
-has-capacity-requires c κs = let a = c .before .before in omega (arith, a .pre .1, limbCount-positive (result a))
-
 returns : tie.Need-returns
 returns c = let a = c .before .before .before .before .before in no-capacity (result a) _ _ (a .pre .1) (c .before .before .has-capacity .ensures) (c .before .if1 .taken) (c .refuse .ensures)
-
-mul-copy : tie.Need-mul-copy
-mul-copy c = let l = within c in search needs
 
 copy-requires : tie.Need-copy-requires
 copy-requires c κs =
@@ -43,10 +37,10 @@ pub store-limbs-spec : {M : Type 1} → statement M
 store-limbs-spec =
     tie.close
     (tie.spec
-    has-capacity-requires
+    (λ c κs. let a = c .before .before in omega (arith, a .pre .1, limbCount-positive (result a)))
     (λ c κs. search needs)
     returns
-    mul-copy
+    (λ c. let l = within c in search needs)
     within
     within
     (λ c. search needs)

@@ -17,17 +17,8 @@ less c = ap (λ (z : ℤ). negsuc 0 -ℤ z) (back (c .fits .distance)) ∙ minus
 word : (c : tie.Start) → toZ w64 (ofZ w64 (negsuc 0 -ℤ toZ w64 (ofZ w64 (c .args .distance)))) ≡ pos (mag (c .args .distance))
 word c = ap (λ (z : ℤ). toZ w64 (ofZ w64 z)) (less c) ∙ back-word (pos (mag (c .args .distance))) (c .fits .distance .sfits)
 
-sub-result : tie.Need-sub-result
-sub-result c = subst (SFits w64) (sym (less c)) (record { sfits = c .fits .distance .sfits })
-
-cast-result : tie.Need-cast-result
-cast-result c = cast-word (word c) (c .fits .distance .sfits)
-
-add-result : tie.Need-add-result
-add-result c = record { fits = omega (arith, ap natAbs (word c), c .fits .distance .sfits) }
-
 returns : tie.Need-returns
 returns c = omega (arith, ap natAbs (word c), ap natAbs (complement-mag (c .args .distance) (c .pre) .1))
 
 pub negated-spec : {M : Type 1} → statement M
-negated-spec = tie.close (tie.spec sub-result cast-result add-result returns)
+negated-spec = tie.close (tie.spec (λ c. subst (SFits w64) (sym (less c)) (record { sfits = c .fits .distance .sfits })) (λ c. cast-word (word c) (c .fits .distance .sfits)) (λ c. record { fits = omega (arith, ap natAbs (word c), c .fits .distance .sfits) }) returns)

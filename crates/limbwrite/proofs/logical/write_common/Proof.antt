@@ -16,9 +16,6 @@ Inv-loop by x y to part₀ j₀ part j = Turn 0 (limbAt (bitwise (logicOf by) (v
 abbrev μ-loop : tie.MeasureT-loop
 μ-loop by x y to part₀ j₀ part j = to - j
 
-loop-holds : tie.Need-loop-holds Inv-loop μ-loop
-loop-holds c = turn-none _ _ _ _ (omega arith)
-
 loop-again : tie.Need-loop-again Inv-loop μ-loop
 loop-again c =
     let a = c .before .before .before .before .before .before .before .before in
@@ -27,9 +24,6 @@ loop-again c =
     (limb-bitwise (logicOf (a .args .by)) (a .args .x .now) (a .args .y .now) j (λ i. c .before .before .shared-slice-known3 .given i .fits)
     (λ i. c .before .shared-slice-known4 .given i .fits) (omega arith) (omega arith) (c .combine .ok) (c .combine .ensures))
     (c .before .before .before .loop-test .taken) (omega arith)
-
-same-length : tie.Need-same-length Inv-loop μ-loop
-same-length c = c .before .loop .inv .so-far .size
 
 returns : tie.Need-returns Inv-loop μ-loop
 returns c = turn-all (c .before .loop .inv) (c .loop-test .left)
@@ -40,7 +34,7 @@ write-common-spec =
     (tie.spec
     Inv-loop
     μ-loop
-    loop-holds
+    (λ c. turn-none _ _ _ _ (omega arith))
     (λ c. omega arith)
     (λ c. omega arith)
     (λ c. omega arith)
@@ -51,5 +45,5 @@ write-common-spec =
     (λ c. omega arith)
     (λ c. omega arith)
     loop-again
-    same-length
+    (λ c. c .before .loop .inv .so-far .size)
     returns)

@@ -17,9 +17,6 @@ Inv-loop x y z to part₀ j₀ part j = Turn 0 (limbAt (bitwiseIf (value x) (val
 abbrev μ-loop : tie.MeasureT-loop
 μ-loop x y z to part₀ j₀ part j = to - j
 
-loop-holds : tie.Need-loop-holds Inv-loop μ-loop
-loop-holds c = turn-none _ _ _ _ (omega arith)
-
 loop-again : tie.Need-loop-again Inv-loop μ-loop
 loop-again c =
     let l = c .before .before .before .before .before in
@@ -32,9 +29,6 @@ loop-again c =
     (c .choose .ensures ∙ bitsFrom-if (value (a .args .x .now)) (value (a .args .y .now)) (value (a .args .z .now)) (32 * j) x y z)
     (c .before .before .before .before .loop-test .taken) (omega arith)
 
-same-length : tie.Need-same-length Inv-loop μ-loop
-same-length c = c .before .loop .inv .so-far .size
-
 returns : tie.Need-returns Inv-loop μ-loop
 returns c = turn-all (c .before .loop .inv) (c .loop-test .left)
 
@@ -44,7 +38,7 @@ write-if-common-spec =
     (tie.spec
     Inv-loop
     μ-loop
-    loop-holds
+    (λ c. turn-none _ _ _ _ (omega arith))
     (λ c. omega arith)
     (λ c. omega arith)
     (λ c. omega arith)
@@ -57,5 +51,5 @@ write-if-common-spec =
     (λ c. omega arith)
     (λ c. omega arith)
     loop-again
-    same-length
+    (λ c. c .before .loop .inv .so-far .size)
     returns)

@@ -14,12 +14,6 @@ Inv-loop x i from to part₀ j₀ part j = Turn 0 (λ n. bitsFrom (value x) (32 
 abbrev μ-loop : tie.MeasureT-loop
 μ-loop x i from to part₀ j₀ part j = to - j
 
-loop-holds : tie.Need-loop-holds Inv-loop μ-loop
-loop-holds c = turn-none _ _ _ _ (omega arith)
-
-sub-part : tie.Need-sub-part Inv-loop μ-loop
-sub-part c = c .before .loop .inv .low
-
 loop-again : tie.Need-loop-again Inv-loop μ-loop
 loop-again c =
     let a = c .before .before .before in
@@ -30,9 +24,6 @@ loop-again c =
     (limb-value (a .args .x .now) s (λ n. c .shared-slice-known .given n .fits) (omega arith) ∙ ap (bitsFrom (value (a .args .x .now))) at)
     (c .before .loop-test .taken) (omega arith)
 
-same-length : tie.Need-same-length Inv-loop μ-loop
-same-length c = c .before .loop .inv .so-far .size
-
 returns : tie.Need-returns Inv-loop μ-loop
 returns c = turn-all (c .before .loop .inv) (c .loop-test .left)
 
@@ -42,8 +33,8 @@ put-copied-spec =
     (tie.spec
     Inv-loop
     μ-loop
-    loop-holds
-    sub-part
+    (λ c. turn-none _ _ _ _ (omega arith))
+    (λ c. c .before .loop .inv .low)
     (λ c. omega arith)
     (λ c. omega arith)
     (λ c. omega arith)
@@ -52,5 +43,5 @@ put-copied-spec =
     (λ c. omega arith)
     (λ c. omega arith)
     loop-again
-    same-length
+    (λ c. c .before .loop .inv .so-far .size)
     returns)

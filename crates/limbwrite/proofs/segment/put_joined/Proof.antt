@@ -15,12 +15,6 @@ Inv-loop x i k from to part₀ j₀ part j = Turn 0 (λ n. bitsFrom (value x) (3
 abbrev μ-loop : tie.MeasureT-loop
 μ-loop x i k from to part₀ j₀ part j = to - j
 
-loop-holds : tie.Need-loop-holds Inv-loop μ-loop
-loop-holds c = turn-none _ _ _ _ (omega arith)
-
-sub-join : tie.Need-sub-join Inv-loop μ-loop
-sub-join c = c .before .loop .inv .low
-
 loop-again : tie.Need-loop-again Inv-loop μ-loop
 loop-again c =
     let a = c .before .before .before .before .before .before .before in
@@ -32,9 +26,6 @@ loop-again c =
     ∙ ap (bitsFrom (value (a .args .x .now))) at)
     (c .before .before .before .loop-test .taken) (omega arith)
 
-same-length : tie.Need-same-length Inv-loop μ-loop
-same-length c = c .before .loop .inv .so-far .size
-
 returns : tie.Need-returns Inv-loop μ-loop
 returns c = turn-all (c .before .loop .inv) (c .loop-test .left)
 
@@ -44,8 +35,8 @@ put-joined-spec =
     (tie.spec
     Inv-loop
     μ-loop
-    loop-holds
-    sub-join
+    (λ c. turn-none _ _ _ _ (omega arith))
+    (λ c. c .before .loop .inv .low)
     (λ c. omega arith)
     (λ c. omega arith)
     (λ c. omega arith)
@@ -60,5 +51,5 @@ put-joined-spec =
     (λ c. omega arith)
     (λ c. omega arith)
     loop-again
-    same-length
+    (λ c. c .before .loop .inv .so-far .size)
     returns)

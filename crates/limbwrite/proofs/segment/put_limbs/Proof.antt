@@ -13,19 +13,10 @@ Inv-loop operation x y z from to part₀ j₀ part j = Turn 0 (limbAt (meaning o
 abbrev μ-loop : tie.MeasureT-loop
 μ-loop operation x y z from to part₀ j₀ part j = to - j
 
-loop-holds : tie.Need-loop-holds Inv-loop μ-loop
-loop-holds c = turn-none _ _ _ _ (omega arith)
-
 limb-of-requires : tie.Need-limb-of-requires Inv-loop μ-loop
 limb-of-requires c κs =
     let p = c .before .before .before .before .before .before .pre in
     (p .0 .0, (p .0 .1 .0, (p .0 .1 .1, (p .1 .0, omega arith))))
-
-loop-again : tie.Need-loop-again Inv-loop μ-loop
-loop-again c = turn-more _ (c .before .before .loop .inv) (c .limb-of .ensures) (c .before .loop-test .taken) (omega arith)
-
-same-length : tie.Need-same-length Inv-loop μ-loop
-same-length c = c .before .loop .inv .so-far .size
 
 returns : tie.Need-returns Inv-loop μ-loop
 returns c = turn-all (c .before .loop .inv) (c .loop-test .left)
@@ -36,12 +27,12 @@ put-limbs-spec =
     (tie.spec
     Inv-loop
     μ-loop
-    loop-holds
+    (λ c. turn-none _ _ _ _ (omega arith))
     limb-of-requires
     (λ c. omega arith)
     (λ c. omega arith)
     (λ c. omega arith)
     (λ c. omega arith)
-    loop-again
-    same-length
+    (λ c. turn-more _ (c .before .before .loop .inv) (c .limb-of .ensures) (c .before .loop-test .taken) (omega arith))
+    (λ c. c .before .loop .inv .so-far .size)
     returns)

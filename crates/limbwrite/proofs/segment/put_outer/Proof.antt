@@ -13,18 +13,6 @@ Inv-loop x at from to part₀ j₀ part j = Turn 0 (λ i. bitsFrom (value x) (at
 abbrev μ-loop : tie.MeasureT-loop
 μ-loop x at from to part₀ j₀ part j = to - j
 
-loop-holds : tie.Need-loop-holds Inv-loop μ-loop
-loop-holds c = turn-none _ _ _ _ (omega arith)
-
-sub-window : tie.Need-sub-window Inv-loop μ-loop
-sub-window c = c .before .loop .inv .low
-
-loop-again : tie.Need-loop-again Inv-loop μ-loop
-loop-again c = turn-more _ (c .before .before .loop .inv) (c .window .ensures) (c .before .loop-test .taken) (omega arith)
-
-same-length : tie.Need-same-length Inv-loop μ-loop
-same-length c = c .before .loop .inv .so-far .size
-
 returns : tie.Need-returns Inv-loop μ-loop
 returns c = turn-all (c .before .loop .inv) (c .loop-test .left)
 
@@ -34,8 +22,8 @@ put-outer-spec =
     (tie.spec
     Inv-loop
     μ-loop
-    loop-holds
-    sub-window
+    (λ c. turn-none _ _ _ _ (omega arith))
+    (λ c. c .before .loop .inv .low)
     (λ c. omega arith)
     (λ c. omega arith)
     (λ c κs. search needs)
@@ -43,6 +31,6 @@ put-outer-spec =
     (λ c. omega arith)
     (λ c. omega arith)
     (λ c. omega arith)
-    loop-again
-    same-length
+    (λ c. turn-more _ (c .before .before .loop .inv) (c .window .ensures) (c .before .loop-test .taken) (omega arith))
+    (λ c. c .before .loop .inv .so-far .size)
     returns)

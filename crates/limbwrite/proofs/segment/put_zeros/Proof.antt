@@ -12,15 +12,6 @@ Inv-loop from to part₀ j₀ part j = Turn 0 (λ i. 0) part₀ part from to j
 abbrev μ-loop : tie.MeasureT-loop
 μ-loop from to part₀ j₀ part j = to - j
 
-loop-holds : tie.Need-loop-holds Inv-loop μ-loop
-loop-holds c = turn-none _ _ _ _ (omega arith)
-
-loop-again : tie.Need-loop-again Inv-loop μ-loop
-loop-again c = turn-more _ (c .before .loop .inv) refl (c .loop-test .taken) (omega arith)
-
-same-length : tie.Need-same-length Inv-loop μ-loop
-same-length c = c .before .loop .inv .so-far .size
-
 returns : tie.Need-returns Inv-loop μ-loop
 returns c = turn-all (c .before .loop .inv) (c .loop-test .left)
 
@@ -30,11 +21,11 @@ put-zeros-spec =
     (tie.spec
     Inv-loop
     μ-loop
-    loop-holds
+    (λ c. turn-none _ _ _ _ (omega arith))
     (λ c. omega arith)
     (λ c. omega arith)
     (λ c. omega arith)
     (λ c. omega arith)
-    loop-again
-    same-length
+    (λ c. turn-more _ (c .before .loop .inv) refl (c .loop-test .taken) (omega arith))
+    (λ c. c .before .loop .inv .so-far .size)
     returns)

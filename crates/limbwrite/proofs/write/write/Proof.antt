@@ -1,6 +1,5 @@
 -- `limbwrite::write::write` meets its contract. Assumes nothing.
 use Prim.Native.Nat.{ℕ}
-use native.Mathlib.Omega.{arith}
 use mathlib.Core.Path.{_≡_, sym, subst}
 use mathlib.Core.List.{List}
 use lib.IntN.{ℤ}
@@ -39,7 +38,7 @@ write-spec =
     (λ c. search needs)
     (λ c κs. let p = c .before .before .before .before .before .before .before .before .pre in let q = proper (c .before .before .operation6 .given .1) (p .1 .1 .1 .0) in (p .0, (q .0, (q .1, p .1 .1 .1 .1))))
     (λ c. search needs)
-    (λ c κs. let p = c .before .before .before .before .before .before .before .pre in ((p .0, (p .1 .0, p .1 .1 .0)), (p .1 .1 .1 .0, omega arith)))
+    (λ c κs. let p = c .before .before .before .before .before .before .before .before .pre in (p .0, (proper (c .before .before .operation7 .given .1) (p .1 .1 .1 .0), p .1 .1 .1 .1)))
     (λ c. search needs)
     (λ c. arm _ _ _ (c .before .before .before .before .before .operation .given .1) (c .before .before .write-logical .ensures))
     (λ c. search needs)
@@ -55,4 +54,4 @@ write-spec =
     (λ c. search needs)
     (λ c. arm _ _ _ (c .before .before .before .before .before .operation6 .given .1) (c .before .before .write-rotate .ensures))
     (λ c. search needs)
-    (λ c. c .before .before .put-limbs .ensures))
+    (λ c. arm _ _ _ (c .before .before .before .before .before .operation7 .given .1) (c .before .before .write-reverse .ensures)))
