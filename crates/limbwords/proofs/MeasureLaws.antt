@@ -5,7 +5,7 @@ use mathlib.Core.Path.{_≡_, refl, sym, ap, _∙_}
 use mathlib.Core.Bool.{Bool, true, false, cond, not}
 use lib.Dec.{eqb, ltb, lit<}
 use lib.IntN.{ℤ, pos}
-use borrow.Author.Tests.{not-true, not-false, lt-ltb, ltb-true, ltb-false, eqb-true, eqb-false}
+use borrow.Author.Tests.{lt-ltb, ltb-true, ltb-false, eqb-true, eqb-false}
 use Rattle.bits.specs.Testbit.{isNegative, testbit, bitLength, fill}
 use Rattle.bits.proofs.TestbitLaws.{testbit-above, testbit-fill}
 use Rattle.bits.proofs.ValueLaws.{testbit-mask}
@@ -108,17 +108,17 @@ module _ {z : ℤ} {n high low : ℕ} {padding : Bool} (e : Enough z n high) (p 
   tested : padding ≡ eqb (limbAt z (n - 1)) (continued (limbAt z (n - 2)))
   tested = cc (test, below, e .last)
 
-  pub one-less : not padding ≡ false → Enough z (n - 1) low
+  pub one-less : padding ≡ true → Enough z (n - 1) low
   one-less q =
       let same : n - 2 ≡ n - 1 - 1 = omega arith in
       record {
         some = omega arith;
-        size = shorter-by-one z n p (e .size) (eqb-true _ _ (sym tested ∙ not-false _ q));
+        size = shorter-by-one z n p (e .size) (eqb-true _ _ (sym tested ∙ q));
         last = below ∙ ap (limbAt z) same;
       }
 
-  pub counted : not padding ≡ true → n ≡ limbCount z
-  counted q = settled-at z n p (e .size) (eqb-false _ _ (sym tested ∙ not-true _ q))
+  pub counted : padding ≡ false → n ≡ limbCount z
+  counted q = settled-at z n p (e .size) (eqb-false _ _ (sym tested ∙ q))
 
 pub counted-one : (z : ℤ) (n : ℕ) → n ≡ 1 → bitLength z < 32 * n → n ≡ limbCount z
 counted-one z n e h = e ∙ sym (settled-one z (omega arith))

@@ -49,6 +49,18 @@ fn is_padding(low: u32, high: u32) -> bool
     }
 }
 
+// The length of the shortest limbs with the value of x: a last limb that only continues the one below it can go.
+pub fn shortest_length(x: &[u32]) -> usize
+    requires { ⌜ 0 < length (now x) ⌝ }
+    ensures { λ r. ⌜ r ≡ limbCount (value (now (x .entry))) ⌝ }
+{
+    let mut n = x.len();
+    while 1 < n && is_padding(x[n - 2], x[n - 1]) {
+        n -= 1;
+    }
+    n
+}
+
 // The length of a result's shortest form, from a number of limbs that is enough downwards.
 fn measure_any(operation: Operation, x: &[u32], y: &[u32], z: &[u32], enough: usize) -> usize
     requires { ⌜ 0 < length (now x) ⌝ }

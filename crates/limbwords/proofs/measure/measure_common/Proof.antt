@@ -2,6 +2,7 @@
 use Prim.Native.Nat.{_≤_}
 use native.Mathlib.Omega.{arith}
 use borrow.Author.Needs.{needs}
+use borrow.Author.Tests.{not-true, not-false}
 use Rattle.bits.specs.Logical.{bitwise}
 use Rattle.limbwords.specs.Value.{value}
 use Rattle.limbwords.specs.Results.{logicOf}
@@ -26,12 +27,12 @@ loop-holds c =
 returns : tie.Need-returns Inv-loop μ-loop
 returns c =
     let t = c .before .before .before in
-    counted (t .before .loop .inv .0) (t .loop-test .taken) (c .before .before .common-limb2 .ensures) (c .before .is-padding .ensures) (c .if1 .taken)
+    counted (t .before .loop .inv .0) (t .loop-test .taken) (c .before .before .common-limb2 .ensures) (c .before .is-padding .ensures) (not-true _ (c .if1 .taken))
 
 loop-again : tie.Need-loop-again Inv-loop μ-loop
 loop-again c =
     let t = c .before .before .before in
-    (one-less (t .before .loop .inv .0) (t .loop-test .taken) (c .before .before .common-limb2 .ensures) (c .before .is-padding .ensures) (c .if1 .left), omega arith)
+    (one-less (t .before .loop .inv .0) (t .loop-test .taken) (c .before .before .common-limb2 .ensures) (c .before .is-padding .ensures) (not-false _ (c .if1 .left)), omega arith)
 
 returns-2 : tie.Need-returns-2 Inv-loop μ-loop
 returns-2 c = let l = c .before .loop in counted-one _ (l .n) (omega (arith, l .inv .0 .some)) (l .inv .0 .size)

@@ -1,6 +1,7 @@
 -- `limbwords::measure::measure_padded` meets its contract, turn by turn. Assumes nothing.
 use native.Mathlib.Omega.{arith}
 use borrow.Author.Needs.{needs}
+use borrow.Author.Tests.{not-true, not-false}
 use Rattle.bits.specs.Logical.{bitwise}
 use Rattle.limbwords.specs.Value.{value}
 use Rattle.limbwords.specs.Results.{logicOf}
@@ -25,12 +26,12 @@ loop-holds c =
 returns : tie.Need-returns Inv-loop μ-loop
 returns c =
     let t = c .before .before .before in
-    counted (t .before .loop .inv) (t .loop-test .taken) (c .before .before .logical-limb2 .ensures) (c .before .is-padding .ensures) (c .if1 .taken)
+    counted (t .before .loop .inv) (t .loop-test .taken) (c .before .before .logical-limb2 .ensures) (c .before .is-padding .ensures) (not-true _ (c .if1 .taken))
 
 loop-again : tie.Need-loop-again Inv-loop μ-loop
 loop-again c =
     let t = c .before .before .before in
-    one-less (t .before .loop .inv) (t .loop-test .taken) (c .before .before .logical-limb2 .ensures) (c .before .is-padding .ensures) (c .if1 .left)
+    one-less (t .before .loop .inv) (t .loop-test .taken) (c .before .before .logical-limb2 .ensures) (c .before .is-padding .ensures) (not-false _ (c .if1 .left))
 
 returns-2 : tie.Need-returns-2 Inv-loop μ-loop
 returns-2 c = let l = c .before .loop in counted-one _ (l .n) (omega (arith, l .inv .some)) (l .inv .size)
