@@ -1,6 +1,7 @@
 -- Laws, from the bits of an integer up to lists of calls. docs/THEOREMS.md lists them by requirement.
 pub mod Booleans
 pub mod IntegerLaws
+pub mod RangeLaws
 pub mod TestbitLaws
 pub mod LengthLaws
 pub mod LogicalLaws

@@ -2,7 +2,6 @@ pub mod ValueLaws
 pub mod LimbLaws
 pub mod WindowLaws
 pub mod SpliceLaws
-pub mod ReverseLaws
 pub mod FieldLimbs
 pub mod LogicalLaws
 pub mod MeasureLaws

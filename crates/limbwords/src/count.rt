@@ -8,7 +8,7 @@ ghost use Rattle.bits.specs.Testbit.{bitLength};
 ghost use Rattle.bits.specs.Count.{ones, bitCount, firstBitSet};
 ghost use Rattle.limbwords.specs.Value.{value};
 use super::limb::padding;
-use super::signed::from_magnitude;
+use words::sign::from_magnitude;
 
 // How many ones a limb has.
 fn ones_of(w: u32) -> u64

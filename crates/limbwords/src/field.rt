@@ -10,8 +10,8 @@ ghost use Rattle.limbwords.specs.Value.{value, limbAt};
 use super::limb::limb;
 use super::limb::window;
 use super::limb::window_below;
-use super::reverse::reverse_word;
 use super::splice::splice_at;
+use words::reverse::reverse_word;
 
 pub fn field_limb(x: &[u32], start: u64, end: u64, j: usize) -> u32
     requires { ⌜ 0 < length (now x) ⌝ }
@@ -66,12 +66,19 @@ pub fn rotate_limb(x: &[u32], start: u64, end: u64, by: u64, j: usize) -> u32
     )
 }
 
+// A limb's bits in the opposite order: those of a word that has them in its upper half. (So the compiled code works on 32 bits.)
+fn mirror(w: u32) -> u32
+    ensures { λ r. ⌜ ((t : ℕ) → t < 32 → testbit (pos r) t ≡ testbit (pos w) (31 - t)) ⌝ }
+{
+    (reverse_word((w as u64) * 0x1_0000_0000) % 0x1_0000_0000) as u32
+}
+
 pub fn reverse_limb(x: &[u32], start: u64, end: u64, j: usize) -> u32
     requires { ⌜ 0 < length (now x) ⌝ }
     requires { ⌜ (start ≤ end) × (end < 2 ^ 32) ⌝ }
     requires { ⌜ j < 2 ^ 32 ⌝ }
     ensures { λ r. ⌜ r ≡ limbAt (reverseBitField (value (now (x .entry))) start end) j ⌝ }
 {
-    let mirrored = reverse_word(window_below(x, start + end, 32 * (j as u64) + 32));
+    let mirrored = mirror(window_below(x, start + end, 32 * (j as u64) + 32));
     lay(mirrored, limb(x, j), start, end, j)
 }

@@ -6,7 +6,6 @@ pub mod limb;
 pub mod logical;
 pub mod measure;
 pub mod result;
-pub mod reverse;
 pub mod shift;
 pub mod signed;
 pub mod splice;

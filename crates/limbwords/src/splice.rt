@@ -5,13 +5,7 @@ ghost use Prim.Native.Nat.{ℕ, _+_, _*_, _-_, _<_, _≤_, _^_};
 ghost use lib.Dec.{ltb};
 ghost use lib.IntN.{pos};
 ghost use Rattle.bits.specs.Testbit.{testbit};
-
-fn power(k: u64) -> u64
-    requires { ⌜ k < 64 ⌝ }
-    ensures { λ r. ⌜ r ≡ 2 ^ k ⌝ }
-{
-    1 << k
-}
+use words::sign::power;
 
 // The bits of one word below bit k, and of another from there on.
 fn splice(low: u32, high: u32, k: u64) -> u32

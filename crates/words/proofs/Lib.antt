@@ -13,3 +13,4 @@ pub mod SignedLaws
 pub mod Columns
 pub mod WideLaws
 pub mod PartLaws
+pub mod PartBounds

@@ -3,13 +3,13 @@
 use Prim.Native.Nat.{ℕ, zero, suc, _+_, _*_, _-_, _/_, _%_, _≤_, _<_, _^_}
 use native.Mathlib.Nat.{mod-lt, mod-eq-of-lt, lt-of-lt-of-le}
 use native.Mathlib.Omega.{arith}
-use mathlib.Core.Path.{_≡_, sym, ap, _∙_, subst}
+use mathlib.Core.Path.{_≡_, sym, ap, ap₂, _∙_, subst}
 use mathlib.Core.Bool.{Bool, true, false, not}
 use lib.Dec.{T, le→leb, lt→ltb}
 use lib.IntN.{ℤ, pos, negsuc, negℤ, natAbs, _+ℤ_, _*ℤ_}
 use lib.Arith.{digits-div, digits-mod}
-use lib.Pow.{pow-pos, pow-mono, pow-add, split, shr-lt}
-use lib.Signed.{mag, leZ, _≤ℤ_, _<ℤ_, leZ-yes, ltZ-yes}
+use lib.Pow.{pow-pos, pow-mono, pow-add, split, shr-lt, shr-shr}
+use lib.Signed.{mag, leZ, _≤ℤ_, _<ℤ_, leZ-yes, ltZ-yes, natAbs-le}
 use borrow.Author.Tests.{leb-false, ltb-false, lt-ltb, le-leb}
 use mir.Val.{boolByte}
 use Rattle.bits.specs.Testbit.{fits}
@@ -21,7 +21,7 @@ use Rattle.words.specs.Wide.{wideValue}
 use Rattle.bits.proofs.FitsLaws.{double}
 use Rattle.words.proofs.WordLaws.{fits-mag, fits-negative, fits-nonnegative}
 use Rattle.words.proofs.WideLaws.{wide-absolute, wide-sign}
-use Rattle.words.proofs.SignedLaws.{withSign-add, withSign-sub, withSign-times}
+use Rattle.words.proofs.SignedLaws.{natAbs-withSign, withSign-add, withSign-sub, withSign-times}
 
 -- ---- a remainder that fits w is that of mod0 by 2^w
 
@@ -101,15 +101,19 @@ module _ (w : ℕ) (s : Wide) (r : ℕ) (h : 0 < w) (e : r ≡ natAbs (wideValue
     fits-far : fits w (withSign (s .negative) (natAbs (wideValue s) % 2 ^ w)) ≡ false
     fits-far = cc
 
-    pub low-far : (m : ℕ) → m ≡ 2 ^ w → withSign (not (s .negative)) (m - r) ≡ mod0 (wideValue s) (pos (2 ^ w))
-    low-far m d = cc (far w (s .negative) (natAbs (wideValue s)) h fits-far .1, wide-sign s)
+    -- 2^w - r, from 2^w - 1, which is a word at every width
+    rest : (m : ℕ) → m + 1 ≡ 2 ^ w → m - r + 1 ≡ 2 ^ w - natAbs (wideValue s) % 2 ^ w
+    rest m d = omega (arith, mod-lt (natAbs (wideValue s)) (pow-pos w))
+
+    pub low-far : (m : ℕ) → m + 1 ≡ 2 ^ w → withSign (not (s .negative)) (m - r + 1) ≡ mod0 (wideValue s) (pos (2 ^ w))
+    low-far m d = cc (rest m d, far w (s .negative) (natAbs (wideValue s)) h fits-far .1, wide-sign s)
 
     high-far : (q : ℕ) → q ≡ natAbs (wideValue s) / 2 ^ w → withSign (s .negative) (q + 1) ≡ div0 (wideValue s) (pos (2 ^ w))
     high-far q d = cc (far w (s .negative) (natAbs (wideValue s)) h fits-far .0, wide-sign s)
 
-    -- it fits a word
-    pub low-far-fits : (m : ℕ) → m ≡ 2 ^ w → fits w (withSign (not (s .negative)) (m - r)) ≡ true
-    low-far-fits m d = rw d (far-fits w (s .negative) r h (subst (λ (k : ℕ). k < 2 ^ w) (sym e) (mod-lt (natAbs (wideValue s)) (pow-pos w))) t)
+    pub low-far-fits : (m : ℕ) → m + 1 ≡ 2 ^ w → fits w (withSign (not (s .negative)) (m - r + 1)) ≡ true
+    low-far-fits m d =
+        rw (rest m d) (far-fits w (s .negative) (natAbs (wideValue s) % 2 ^ w) h (mod-lt (natAbs (wideValue s)) (pow-pos w)) fits-far)
 
   -- one more where the remainder is far
   pub high-either : (near : Bool) → near ≡ fits w (withSign (s .negative) r) → (q : ℕ) → q ≡ natAbs (wideValue s) / 2 ^ w
@@ -117,7 +121,7 @@ module _ (w : ℕ) (s : Wide) (r : ℕ) (h : 0 < w) (e : r ≡ natAbs (wideValue
   high-either true t q d = let z : q + 0 ≡ q = omega arith in ap (withSign (s .negative)) z ∙ high-near (sym t) q d
   high-either false t q d = high-far (sym t) q d
 
-pub one-more : (b : Bool) (q : ℕ) → q < 2 ^ 62 → q + boolByte b < 2 ^ 63
+pub one-more : (b : Bool) (q : ℕ) → q + 1 < 2 ^ 63 → q + boolByte b < 2 ^ 63
 one-more true q h = omega arith
 one-more false q h = omega arith
 
@@ -128,6 +132,9 @@ fits-wider w v x h t = lt-ltb (mag x) (2 ^ (v - 1)) (lt-of-lt-of-le (fits-mag w 
 pub small-fits : (b : Bool) (n : ℕ) → n < 2 ^ 63 → fits 64 (withSign b n) ≡ true
 small-fits true n h = fits-negative 64 n ∙ le-leb n (2 ^ 63) (omega arith)
 small-fits false n h = fits-nonnegative 64 n ∙ lt-ltb n (2 ^ 63) h
+
+pub fits-absolute : (b : Bool) (n : ℕ) → fits 64 (withSign b n) ≡ true → n ≤ 2 ^ 63
+fits-absolute b n h = subst (λ (m : ℕ). m ≤ 2 ^ 63) (natAbs-withSign b n) (natAbs-le (withSign b n) (fits-mag 64 (withSign b n) h))
 
 -- ---- quotient and remainder by 2^w of the two words
 
@@ -150,13 +157,19 @@ quotient-digits : (w : ℕ) (s : Wide) → w ≤ 64 → natAbs (wideValue s) / 2
 quotient-digits w s h =
     ap (λ (n : ℕ). n / 2 ^ w) (wide-absolute s ∙ digits w (s .high) (s .low) h) ∙ digits-div (s .high * 2 ^ (64 - w) + s .low / 2 ^ w) (mod-lt (s .low) (pow-pos w))
 
-pub quotient-lt : (w : ℕ) (s : Wide) → natAbs (wideValue s) < 2 ^ (62 + w) → natAbs (wideValue s) / 2 ^ w < 2 ^ 62
-quotient-lt w s h = shr-lt 62 w h
+-- and one more is below 2^63
+pub quotient-lt : (w : ℕ) (s : Wide) → natAbs (wideValue s) + 2 ^ w < 2 ^ (63 + w) → natAbs (wideValue s) / 2 ^ w + 1 < 2 ^ 63
+quotient-lt w s h =
+    let n = natAbs (wideValue s) in
+    let e : n + 2 ^ w ≡ (n / 2 ^ w + 1) * 2 ^ w + n % 2 ^ w = omega (arith, split n w) in
+    subst (λ (q : ℕ). q < 2 ^ 63) (ap (λ (m : ℕ). m / 2 ^ w) e ∙ digits-div (n / 2 ^ w + 1) (mod-lt n (pow-pos w))) (shr-lt 63 w h)
 
--- the shifted high word does not wrap
-pub quotient-word : (w : ℕ) (s : Wide) → w ≤ 64 → natAbs (wideValue s) < 2 ^ (62 + w)
-    → s .high * 2 ^ (64 - w) % 2 ^ 64 + s .low / 2 ^ w ≡ natAbs (wideValue s) / 2 ^ w
-quotient-word w s h k =
+-- the shifted high word does not wrap, and the low one is shifted in two steps, of which none is by 64
+pub quotient-word : (w : ℕ) (s : Wide) → 1 ≤ w → w ≤ 64 → natAbs (wideValue s) + 2 ^ w < 2 ^ (63 + w)
+    → s .high * 2 ^ (64 - w) % 2 ^ 64 + s .low / 2 / 2 ^ (w - 1) ≡ natAbs (wideValue s) / 2 ^ w
+quotient-word w s p h k =
     let e = quotient-digits w s h in
     let l = quotient-lt w s k in
-    ap (λ (n : ℕ). n + s .low / 2 ^ w) (mod-eq-of-lt {n = s .high * 2 ^ (64 - w)} {m = 2 ^ 64} (omega arith)) ∙ sym e
+    let one : 1 + (w - 1) ≡ w = omega arith in
+    ap₂ (λ (m n : ℕ). m + n) (mod-eq-of-lt {n = s .high * 2 ^ (64 - w)} {m = 2 ^ 64} (omega arith)) (shr-shr (s .low) 1 (w - 1) ∙ ap (λ (j : ℕ). s .low / 2 ^ j) one)
+    ∙ sym e

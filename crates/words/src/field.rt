@@ -43,7 +43,7 @@ fn signed_low(negative: bool, m: u64, size: u64) -> u64
 }
 
 // The bits of x from start on, `size` of them.
-fn bits_from(x: i64, start: u64, size: u64) -> u64
+pub fn bits_from(x: i64, start: u64, size: u64) -> u64
     requires { ⌜ (start < 64) × (size < 64) ⌝ }
     ensures { λ r. ⌜ r ≡ modℕ (shiftRight x start) (2 ^ size) ⌝ }
 {

@@ -5,6 +5,7 @@ pub mod division;
 pub mod field;
 pub mod logical;
 pub mod parts;
-mod reverse;
+pub mod range;
+pub mod reverse;
 pub mod sign;
 pub mod wide;

@@ -1,12 +1,14 @@
 -- `fixnum::call` meets its contract: the stages of the code are those of the answer. Assumes nothing.
-use mathlib.Core.Path.{_≡_, sym, _∙_}
+use mathlib.Core.Path.{_≡_, sym, ap, _∙_}
 use mathlib.Core.Bool.{true}
 use borrow.Author.Tests.{not-true, not-false}
-use Rattle.fixnum.specs.Domains.{isWidth}
-use Rattle.fixnum.specs.Table.{isCode}
-use Rattle.fixnum.specs.Calls.{isCount, fixnumAnswer, Accepted}
-use Rattle.fixnum.proofs.TableLaws.{at-most-four, code-bounds}
-use Rattle.fixnum.proofs.AnswerLaws.{passed, failed, accepted}
+use Rattle.fxtable.specs.Domains.{isWidth}
+use Rattle.fxtable.specs.Table.{isCode}
+use Rattle.fxtable.specs.Calls.{isCount, fixnumAnswer, Accepted}
+use Rattle.fxtable.proofs.TableLaws.{at-most-four, code-bounds}
+use Rattle.outcomes.proofs.OutcomeLaws.{passed, failed}
+use Rattle.fxtable.specs.Answers.{answer}
+use Rattle.fxtable.proofs.CallLaws.{accepted}
 use borrow.Author.Needs.{needs}
 use Rattle.fixnum.proofs.call.Statement.{statement}
 use Rattle.fixnum.proofs.call.Tie as tie
@@ -32,24 +34,21 @@ accepts c = record {
 returns : tie.Need-returns
 unfolding fixnumAnswer
 returns c =
-    c .refuse .ensures ∙ sym (failed 1 _ (sym (c .before .before .is-width .ensures) ∙ not-true _ (c .before .if1 .taken)))
+    c .refuse .ensures ∙ ap answer (sym (failed 1 _ (sym (c .before .before .is-width .ensures) ∙ not-true _ (c .before .if1 .taken))))
 
 returns-2 : tie.Need-returns-2
 unfolding fixnumAnswer
 returns-2 c =
     c .refuse2 .ensures
-    ∙ sym (passed 1 _ (width-ok (c .before .before .before)) ∙ failed 2 _ (sym (c .before .before .is-code .ensures) ∙ not-true _ (c .before .if2 .taken)))
-
-is-count-requires : tie.Need-is-count-requires
-is-count-requires c κs = code-ok c
+    ∙ ap answer (sym (passed 1 _ (width-ok (c .before .before .before)) ∙ failed 2 _ (sym (c .before .before .is-code .ensures) ∙ not-true _ (c .before .if2 .taken))))
 
 returns-3 : tie.Need-returns-3
 unfolding fixnumAnswer
 returns-3 c =
     c .refuse3 .ensures
-    ∙ sym (passed 1 _ (width-ok (c .before .before .before .before .before))
+    ∙ ap answer (sym (passed 1 _ (width-ok (c .before .before .before .before .before))
     ∙ passed 2 _ (code-ok (c .before .before .before))
-    ∙ failed 3 _ (sym (c .before .before .is-count .ensures) ∙ not-true _ (c .before .if3 .taken)))
+    ∙ failed 3 _ (sym (c .before .before .is-count .ensures) ∙ not-true _ (c .before .if3 .taken))))
 
 all-fixnums-requires : tie.Need-all-fixnums-requires
 all-fixnums-requires c κs = (width-ok (c .before .before .before .before), at-most-four _ _ (count-ok c))
@@ -58,23 +57,23 @@ returns-4 : tie.Need-returns-4
 unfolding fixnumAnswer
 returns-4 c =
     c .refuse4 .ensures
-    ∙ sym (passed 1 _ (width-ok (c .before .before .before .before .before .before .before))
+    ∙ ap answer (sym (passed 1 _ (width-ok (c .before .before .before .before .before .before .before))
     ∙ passed 2 _ (code-ok (c .before .before .before .before .before))
     ∙ passed 3 _ (count-ok (c .before .before .before))
-    ∙ failed 4 _ (sym (c .before .before .all-fixnums .ensures) ∙ not-true _ (c .before .if4 .taken)))
+    ∙ failed 4 _ (sym (c .before .before .all-fixnums .ensures) ∙ not-true _ (c .before .if4 .taken))))
 
 in-domains-requires : tie.Need-in-domains-requires
-in-domains-requires c κs = (width-ok (c .before .before .before .before .before .before), (code-ok (c .before .before .before .before), count-ok (c .before .before)))
+in-domains-requires c κs = (width-ok (c .before .before .before .before .before .before), count-ok (c .before .before))
 
 returns-5 : tie.Need-returns-5
 unfolding fixnumAnswer
 returns-5 c =
     c .refuse5 .ensures
-    ∙ sym (passed 1 _ (width-ok (c .before .before .before .before .before .before .before .before .before))
+    ∙ ap answer (sym (passed 1 _ (width-ok (c .before .before .before .before .before .before .before .before .before))
     ∙ passed 2 _ (code-ok (c .before .before .before .before .before .before .before))
     ∙ passed 3 _ (count-ok (c .before .before .before .before .before))
     ∙ passed 4 _ (sym (c .before .before .before .before .all-fixnums .ensures) ∙ not-false _ (c .before .before .before .if4 .left))
-    ∙ failed 5 _ (sym (c .before .before .in-domains .ensures) ∙ not-true _ (c .before .if5 .taken)))
+    ∙ failed 5 _ (sym (c .before .before .in-domains .ensures) ∙ not-true _ (c .before .if5 .taken))))
 
 operate-requires : tie.Need-operate-requires
 operate-requires c κs = (accepts c, code-bounds _ (code-ok (c .before .before .before .before .before .before)))
@@ -94,7 +93,7 @@ call-spec =
     (λ c κs. search needs)
     (λ c κs. search needs)
     returns-2
-    is-count-requires
+    (λ c κs. search needs)
     (λ c κs. search needs)
     returns-3
     all-fixnums-requires

@@ -8,7 +8,7 @@ returns : tie.Need-returns
 returns c =
     reverseBitField-limb
     (record { fits = c .lay .ok; outside = c .before .limb .result; same = c .before .limb .ensures; bits = c .lay .ensures })
-    (c .before .before .reverse-word .ensures)
+    (c .before .before .mirror .ensures)
     (c .before .before .before .window-below .ensures)
 
 pub reverse-limb-spec : {M : Type 1} → statement M

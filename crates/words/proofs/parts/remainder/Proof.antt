@@ -1,20 +1,18 @@
 -- `words::parts::remainder` meets its contract. Assumes nothing.
-use mathlib.Core.Path.{ap, _∙_}
 use native.Mathlib.Omega.{arith}
-use Prim.Native.Nat.{ℕ, _%_}
-use lib.Pow.{pow-pos}
-use Rattle.words.proofs.PartLaws.{remainder-word}
+use mathlib.Core.Path.{_≡_, ap, _∙_}
+use Prim.Native.Nat.{_-_, _^_}
+use lib.Bits.{bitAnd, and-mask}
 use borrow.Author.Needs.{needs}
+use Rattle.words.proofs.PartLaws.{remainder-word}
 use Rattle.words.proofs.parts.remainder.Statement.{statement}
 use Rattle.words.proofs.parts.remainder.Tie as tie
-
-rem-result : tie.Need-rem-result
-rem-result c = let e = c .before .power .ensures in omega (arith, pow-pos (c .before .before .args .width))
 
 returns : tie.Need-returns
 returns c =
     let a = c .before .before in
-    ap (λ (m : ℕ). a .args .s .low % m) (c .before .power .ensures) ∙ remainder-word (a .args .width) (a .args .s) (omega arith)
+    let e : c .before .ones .result ≡ 2 ^ a .args .width - 1 = omega (arith, c .before .ones .ensures) in
+    ap (bitAnd (a .args .s .low)) e ∙ and-mask (a .args .s .low) (a .args .width) ∙ remainder-word (a .args .width) (a .args .s) (a .pre .1)
 
 pub remainder-spec : {M : Type 1} → statement M
-remainder-spec = tie.close (tie.spec (λ c κs. search needs) rem-result returns)
+remainder-spec = tie.close (tie.spec (λ c κs. search needs) returns)

@@ -1,0 +1,31 @@
+// Codes 13 to 15: sum, product, difference.
+ghost use mathlib.Core.Path.{_≡_};
+ghost use Prim.Native.Nat.{_≤_};
+ghost use Rattle.fxtable.specs.Answers.{answer};
+ghost use Rattle.fxtable.specs.Calls.{Accepted, counted, outcome};
+use fxtable::answer::Answer;
+use fxtable::overflow::checked;
+use fxtable::overflow::exact;
+use words::sign::absolute;
+use words::sign::is_negative;
+use words::wide::add_word;
+use words::wide::product;
+use words::wide::widen;
+
+// fx+ fx* fx-: only fx- takes one argument.
+pub fn arithmetic(width: u64, code: u64, args: [i64; 4], count: u64) -> Answer
+    requires { ⌜ Accepted width code args count ⌝ }
+    requires { ⌜ (13 ≤ code) × (code ≤ 15) ⌝ }
+    ensures { λ r. ⌜ r ≡ answer (outcome width code (counted args count)) ⌝ }
+{
+    let x = args[0];
+    if count == 1 {
+        return checked(5, width, !is_negative(x), absolute(x), 0);
+    }
+    let y = args[1];
+    match code {
+        13 => exact(6, width, add_word(widen(x), false, y)),
+        14 => exact(6, width, product(x, y)),
+        _ => exact(5, width, add_word(widen(x), true, y)),
+    }
+}

@@ -1,0 +1,3 @@
+-- Laws of each family.
+pub mod ShiftLaws
+pub mod FieldLaws

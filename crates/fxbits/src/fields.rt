@@ -1,0 +1,36 @@
+// Codes 35, 36, 40 and 41: fxbit-field, fxcopy-bit-field, fxrotate-bit-field, fxreverse-bit-field. Argument 0 has a field, whose
+// start is argument 1 and its end argument 2. A rotate or a reverse takes the field as a number, and puts the new one back.
+ghost use Prim.Native.Nat.{_≤_, _<_};
+ghost use mathlib.Core.Path.{_≡_};
+ghost use Rattle.fxtable.specs.Answers.{answer};
+ghost use Rattle.fxtable.specs.Calls.{Accepted, counted, outcome};
+use fxtable::answer::Answer;
+use fxtable::answer::done;
+use words::field;
+use words::sign::absolute;
+
+pub fn fields(width: u64, code: u64, args: [i64; 4], count: u64) -> Answer
+    requires { ⌜ Accepted width code args count ⌝ }
+    requires { ⌜ (35 ≤ code) × (code ≤ 41) × (36 < code → 40 ≤ code) ⌝ }
+    ensures { λ r. ⌜ r ≡ answer (outcome width code (counted args count)) ⌝ }
+{
+    let x = args[0];
+    let start = absolute(args[1]);
+    let end = absolute(args[2]);
+    match code {
+        35 => done(field::bit_field(x, start, end) as i64, 0),
+        36 => {
+            let source = field::low_bits(args[3], end - start);
+            done(field::copy_bit_field(x, start, end, source), 0)
+        }
+        40 => {
+            let c = absolute(args[3]);
+            let rotated = field::rotate(field::bit_field(x, start, end), end - start, c);
+            done(field::copy_bit_field(x, start, end, rotated), 0)
+        }
+        _ => {
+            let reversed = field::reverse(field::bit_field(x, start, end), end - start);
+            done(field::copy_bit_field(x, start, end, reversed), 0)
+        }
+    }
+}

@@ -1,0 +1,115 @@
+-- What an accepted call says of its width, its count and its arguments; answers, from equal results. Assumes nothing.
+use Prim.Native.Nat.{ℕ, zero, suc, _-_, _≤_, _<_, _^_}
+use native.Mathlib.Nat.{le-antisymm, lt-of-lt-of-le, lt-of-le-of-lt, le-of-suc-le-suc, not-suc-le-zero}
+use native.Mathlib.Omega.{arith}
+use mathlib.Core.Path.{_≡_, refl, sym, ap, _∙_, subst}
+use mathlib.Core.Bool.{Bool, true, false, _&&_, _||_}
+use mathlib.Core.List.{List, [], _∷_}
+use lib.Dec.{leb, eqb}
+use lib.IntN.{ℤ, pos, negsuc}
+use lib.ListN.{take}
+use lib.Pow.{pow-pos, pow-mono, shr-le}
+use lib.Seq.{getD-take}
+use lib.Signed.{mag}
+use mir.Syntax.{w64}
+use mir.Val.{toZ, ofZ}
+use borrow.Author.Tests.{leb-true, lt-ltb, ne-eqb}
+use Rattle.bits.proofs.Booleans.{both-left, both-right}
+use Rattle.bits.specs.Testbit.{fits}
+use Rattle.bits.specs.Shift.{floorDiv, shiftRight}
+use Rattle.outcomes.specs.Outcome.{done, refuse}
+use Rattle.outcomes.proofs.OutcomeLaws.{passed, failed}
+use Rattle.words.proofs.WordLaws.{back-word, fits-mag}
+use Rattle.fxtable.specs.declared.answer.Answer.{Answer}
+use Rattle.fxtable.specs.Answers.{answer}
+use Rattle.fxtable.specs.Domains.{leastWidth, largestWidth, isWidth, arg}
+use Rattle.fxtable.specs.Table.{isCode}
+use Rattle.fxtable.specs.Calls.{Accepted, counted, allFixnums, checked, outcome, fixnumAnswer}
+
+or-true : (b : Bool) → b || true ≡ true
+or-true true = refl
+or-true false = refl
+
+pub between : (m n k : ℕ) → leb m n && leb n k ≡ true → (m ≤ n) × (n ≤ k)
+between m n k h =
+    (leb-true m n (both-left (leb m n) (leb n k) h), leb-true n k (both-right (leb m n) (leb n k) h))
+
+-- a code that allows one count only
+pub exactly : (n count : ℕ) → leb n count && leb count n ≡ true → count ≡ n
+exactly n count h = le-antisymm (between n count n h .1) (between n count n h .0)
+
+-- every law above says no more of a width than this
+pub width-bounds : (w : ℕ) → isWidth w ≡ true → (24 ≤ w) × (w ≤ 64)
+unfolding isWidth leastWidth largestWidth
+width-bounds w h = let b = between 24 w 62 h in (b .0, omega arith)
+
+-- an argument below the count is the slot
+pub arg-counted : (xs : List ℤ) (n i : ℕ) → i < n → arg (counted xs n) i ≡ arg xs i
+unfolding arg counted
+arg-counted xs n i h = getD-take n xs i (pos 0) h
+
+-- an argument of a code that allows one count only
+pub arg-exactly : (xs : List ℤ) (n count i : ℕ) → leb n count && leb count n ≡ true → i < n → arg (counted xs count) i ≡ arg xs i
+arg-exactly xs n count i h k = arg-counted xs count i (subst (λ (m : ℕ). i < m) (sym (exactly n count h)) k)
+
+-- each argument below the count is a fixnum
+pub fits-arg : (w : ℕ) (xs : List ℤ) (n i : ℕ) → allFixnums w (counted xs n) ≡ true → i < n → fits w (arg xs i) ≡ true
+unfolding arg counted allFixnums fits
+fits-arg w xs zero i h k = absurd (not-suc-le-zero k)
+fits-arg w [] (suc n) i h k = lt-ltb 0 (2 ^ (w - 1)) (pow-pos (w - 1))
+fits-arg w (x ∷ xs) (suc n) zero h k = both-left (fits w x) (allFixnums w (take n xs)) h
+fits-arg w (x ∷ xs) (suc n) (suc i) h k =
+    fits-arg w xs n i (both-right (fits w x) (allFixnums w (take n xs)) h) (le-of-suc-le-suc k)
+
+-- a fixnum is a machine word
+pub fits-word : (w : ℕ) (x : ℤ) → isWidth w ≡ true → fits w x ≡ true → fits 64 x ≡ true
+unfolding fits
+fits-word w x a h =
+    let b = width-bounds w a in
+    lt-ltb (mag x) (2 ^ 63) (lt-of-lt-of-le (fits-mag w x h) (pow-mono {j = 63} (omega arith)))
+
+mag-right : (x : ℤ) (k : ℕ) → mag (shiftRight x k) ≤ mag x
+unfolding shiftRight floorDiv
+mag-right (pos n) k = shr-le n k
+mag-right (negsuc n) k = shr-le n k
+
+-- a shift to the right stays a fixnum
+pub right-fits : (w : ℕ) (x : ℤ) (k : ℕ) → fits w x ≡ true → fits w (shiftRight x k) ≡ true
+unfolding fits
+right-fits w x k h = lt-ltb (mag (shiftRight x k)) (2 ^ (w - 1)) (lt-of-le-of-lt (mag-right x k) (fits-mag w x h))
+
+-- ---- answers
+
+pub done-cong : {a a′ b b′ : ℤ} → a ≡ a′ → b ≡ b′ → answer (done (a, b)) ≡ answer (done (a′, b′))
+done-cong p q = cc
+
+-- an answer from the word that holds its one result
+pub done-word : {r : Answer} {y z : ℤ} → r ≡ answer (done (toZ w64 (ofZ w64 y), pos 0)) → mag y < 2 ^ 63 → y ≡ z → r ≡ answer (done (z, pos 0))
+done-word {y} d h e = d ∙ done-cong (back-word y h ∙ e) refl
+
+pub checked-cong : {a a′ b b′ : ℤ} (k w : ℕ) → a ≡ a′ → b ≡ b′ → answer (checked k w (a, b)) ≡ answer (checked k w (a′, b′))
+checked-cong k w p q = cc
+
+-- the test for overflow, passed and failed; and where there is none
+pub checked-fits : (k w : ℕ) (a b : ℤ) → fits w a ≡ true → answer (checked k w (a, b)) ≡ answer (done (a, b))
+unfolding checked
+checked-fits k w a b h = ap answer (passed k (done (a, b)) (ap (λ (t : Bool). eqb k 0 || t) h ∙ or-true (eqb k 0)))
+
+pub checked-large : (k w : ℕ) (a b : ℤ) → 0 < k → fits w a ≡ false → answer (checked k w (a, b)) ≡ answer (refuse k)
+unfolding checked
+checked-large k w a b p h =
+    ap answer (failed k (done (a, b)) (ap (λ (t : Bool). eqb k 0 || t) h ∙ ap (λ (t : Bool). t || false) (ne-eqb k 0 (λ e. omega arith))))
+
+pub never-checked : (w : ℕ) (r : ℤ × ℤ) → answer (done r) ≡ answer (checked 0 w r)
+unfolding checked
+never-checked w r = sym (ap answer (passed 0 (done r) refl))
+
+-- an answer from the word that holds its one result, of a code that is never refused for overflow
+pub done-never : (w : ℕ) {r : Answer} {y z : ℤ} → r ≡ answer (done (toZ w64 (ofZ w64 y), pos 0)) → mag y < 2 ^ 63 → y ≡ z → r ≡ answer (checked 0 w (z, pos 0))
+done-never w {z} d h e = done-word d h e ∙ never-checked w (z, pos 0)
+
+-- an answer whose first five stages pass
+pub accepted : (w code : ℕ) (xs : List ℤ) (n : ℕ) → isCode code ≡ true → Accepted w code xs n → fixnumAnswer w code xs n ≡ answer (outcome w code (counted xs n))
+unfolding fixnumAnswer
+accepted w code xs n k a =
+    ap answer (passed 1 _ (a .width) ∙ passed 2 _ k ∙ passed 3 _ (a .arity) ∙ passed 4 _ (a .fixnums) ∙ passed 5 _ (a .domains))

@@ -1,0 +1,12 @@
+-- `fxtable::answer::done` meets its contract. Assumes nothing.
+use Rattle.words.proofs.WordLaws.{back}
+use Rattle.fxtable.specs.Answers.{answer}
+use Rattle.fxtable.proofs.answer.done.Statement.{statement}
+use Rattle.fxtable.proofs.answer.done.Tie as tie
+
+returns : tie.Need-returns
+unfolding answer
+returns c = rw (back (c .fits .first), back (c .fits .second))
+
+pub done-spec : {M : Type 1} → statement M
+done-spec = tie.close (tie.spec returns)

@@ -1,0 +1,52 @@
+-- The answer of a fixnum call, on every input: 01's refusals in their order, and then the results.
+--   counted args count                 ==  the arguments: the slots up to the count
+--   checked overflow w results         ==  the results, or the overflow refusal where the first is no fixnum; 0: it always is one
+--   outcome w code xs                  ==  what an operation comes to, on arguments that no stage refuses
+--   fixnumAnswer w code args count     ==  the answer of the call
+--   Accepted w code args count         ==  no refusal from 1 to 5 is given
+use Prim.Native.Nat.{ℕ}
+use mathlib.Core.Path.{_≡_}
+use mathlib.Core.Bool.{Bool, true, _&&_, _||_}
+use mathlib.Core.List.{List, [], _∷_}
+use lib.Dec.{leb, eqb}
+use lib.IntN.{ℤ}
+use lib.ListN.{take}
+use Rattle.bits.specs.Testbit.{fits}
+use Rattle.outcomes.specs.Outcome.{Outcome, done, guard}
+use Rattle.fxtable.specs.declared.answer.Answer.{Answer}
+use Rattle.fxtable.specs.Answers.{answer}
+use Rattle.fxtable.specs.Domains.{isWidth, inDomains}
+use Rattle.fxtable.specs.Operations.{resultsOf}
+use Rattle.fxtable.specs.Table.{isCode, rowOf}
+
+unfoldable pub counted : List ℤ → ℕ → List ℤ
+counted args count = take count args
+
+unfoldable pub isCount : ℕ → ℕ → Bool
+isCount code count = leb (rowOf code .least) count && leb count (rowOf code .most)
+
+unfoldable pub allFixnums : ℕ → List ℤ → Bool
+allFixnums w [] = true
+allFixnums w (x ∷ xs) = fits w x && allFixnums w xs
+
+unfoldable pub checked : ℕ → ℕ → ℤ × ℤ → Outcome (ℤ × ℤ)
+checked overflow w results = guard (eqb overflow 0 || fits w (results .0)) overflow (done results)
+
+unfoldable pub outcome : ℕ → ℕ → List ℤ → Outcome (ℤ × ℤ)
+outcome w code xs = checked (rowOf code .overflow) w (resultsOf (rowOf code .results) w xs)
+
+unfoldable pub fixnumAnswer : ℕ → ℕ → List ℤ → ℕ → Answer
+fixnumAnswer w code args count =
+    answer
+    (guard (isWidth w) 1
+    (guard (isCode code) 2
+    (guard (isCount code count) 3
+    (guard (allFixnums w (counted args count)) 4
+    (guard (inDomains (rowOf code .domains) w (counted args count)) 5
+    (outcome w code (counted args count)))))))
+
+pub record Accepted (w code : ℕ) (args : List ℤ) (count : ℕ) : Type 0 where
+  pub width : isWidth w ≡ true
+  pub arity : isCount code count ≡ true
+  pub fixnums : allFixnums w (counted args count) ≡ true
+  pub domains : inDomains (rowOf code .domains) w (counted args count) ≡ true

@@ -1,0 +1,6 @@
+pub mod Answers
+pub mod Domains
+pub mod Operations
+pub mod Table
+pub mod Calls
+pub mod Folds

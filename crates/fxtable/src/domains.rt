@@ -1,0 +1,70 @@
+// Where an argument must lie, beyond being a fixnum.
+ghost use mathlib.Core.Path.{_≡_};
+ghost use mathlib.Core.Bool.{true, _&&_};
+ghost use Prim.Native.Nat.{_≤_};
+ghost use lib.IntN.{pos};
+ghost use lib.Signed.{leZ, ltZ};
+ghost use Rattle.bits.specs.Range as range;
+ghost use Rattle.fxtable.specs.declared.domains.Domain.the-variants.{Rotation};
+ghost use Rattle.fxtable.specs.Domains as domains;
+ghost use Rattle.fxtable.specs.Table.{rowOf};
+ghost use Rattle.fxtable.specs.Calls.{isCount, counted};
+use super::table::signature_of;
+use words::range::within;
+use words::sign::absolute;
+
+pub enum Domain {
+    Fixnum,
+    Divisor,
+    Position,
+    FieldEnd,
+    NewBit,
+    SignedDistance,
+    Distance,
+    Rotation,
+}
+
+// Whether x lies from 0 to size - 1.
+fn below(x: i64, size: i64) -> bool
+    ensures { λ r. ⌜ r ≡ leZ (pos 0) x && ltZ x size ⌝ }
+{
+    0 <= x && x < size
+}
+
+// Whether argument i lies in its domain. One that may be any fixnum is not read.
+fn accepts(domain: Domain, width: u64, args: [i64; 4], i: u64) -> bool
+    requires { ⌜ (domains.isWidth width ≡ true) × (i ≤ 3) ⌝ }
+    requires { ⌜ (domain ≡ Rotation → range.within (pos 0) (domains.arg args 1) (domains.arg args 2) ≡ true) ⌝ }
+    ensures { λ r. ⌜ r ≡ domains.accepts domain width args (domains.arg args i) ⌝ }
+{
+    let last = (width - 1) as i64;
+    match domain {
+        Domain::Fixnum => true,
+        Domain::Divisor => absolute(args[i as usize]) > 0,
+        Domain::Position => within(0, args[i as usize], last),
+        Domain::FieldEnd => within(args[1], args[i as usize], last),
+        Domain::NewBit => within(0, args[i as usize], 1),
+        Domain::SignedDistance => within(0 - last, args[i as usize], last),
+        Domain::Distance => within(0, args[i as usize], last),
+        Domain::Rotation => below(args[i as usize], args[2] - args[1]),
+    }
+}
+
+// Whether each argument lies in its domain, from left to right.
+pub fn in_domains(width: u64, code: u64, args: [i64; 4], count: u64) -> bool
+    requires { ⌜ domains.isWidth width ≡ true ⌝ }
+    requires { ⌜ isCount code count ≡ true ⌝ }
+    ensures { λ r. ⌜ r ≡ domains.inDomains (rowOf code .domains) width (counted args count) ⌝ }
+{
+    let s = signature_of(code);
+    let second = s.second;
+    if !accepts(second, width, args, 1) {
+        return false;
+    }
+    let third = s.third;
+    if !accepts(third, width, args, 2) {
+        return false;
+    }
+    let fourth = s.fourth;
+    accepts(fourth, width, args, 3)
+}

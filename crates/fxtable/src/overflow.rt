@@ -1,0 +1,40 @@
+// The answer of a call whose exact first result may be no fixnum, from that result.
+ghost use mathlib.Core.Path.{_≡_};
+ghost use mathlib.Core.Bool.{true};
+ghost use Prim.Native.Nat.{_<_};
+ghost use lib.IntN.{pos};
+ghost use Rattle.words.specs.Sign.{withSign};
+ghost use Rattle.words.specs.Wide.{wideValue};
+ghost use Rattle.fxtable.specs.Answers.{answer};
+ghost use Rattle.fxtable.specs.Domains.{isWidth};
+ghost use Rattle.fxtable.specs.Calls as calls;
+use super::answer::Answer;
+use super::answer::done;
+use super::answer::refuse;
+use words::sign::absolute_fits;
+use words::sign::from_absolute;
+use words::wide::Wide;
+
+// A result with a sign and an absolute value, or the refusal for overflow.
+pub fn checked(overflow: u64, width: u64, negative: bool, n: u64, second: i64) -> Answer
+    requires { ⌜ (isWidth width ≡ true) × (0 < overflow) ⌝ }
+    ensures { λ r. ⌜ r ≡ answer (calls.checked overflow width (withSign negative n, second)) ⌝ }
+{
+    if absolute_fits(width, negative, n) {
+        done(from_absolute(negative, n), second)
+    } else {
+        refuse(overflow)
+    }
+}
+
+// A result of two words.
+pub fn exact(overflow: u64, width: u64, s: Wide) -> Answer
+    requires { ⌜ (isWidth width ≡ true) × (0 < overflow) ⌝ }
+    ensures { λ r. ⌜ r ≡ answer (calls.checked overflow width (wideValue s, pos 0)) ⌝ }
+{
+    if s.high == 0 {
+        checked(overflow, width, s.negative, s.low, 0)
+    } else {
+        refuse(overflow)
+    }
+}
