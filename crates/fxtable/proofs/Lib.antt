@@ -5,3 +5,4 @@ pub mod DomainLaws
 pub mod MeaningLaws
 pub mod LoopLaws
 pub mod ArgumentLaws
+pub mod Cases

@@ -49,8 +49,7 @@ pub fn copy_field_limb(x: &[u32], y: &[u32], start: u64, end: u64, j: usize) -> 
 // A rotation by c moves the upper c bits of the field to its low end, and the others up by c.
 pub fn rotate_limb(x: &[u32], start: u64, end: u64, by: u64, j: usize) -> u32
     requires { ⌜ 0 < length (now x) ⌝ }
-    requires { ⌜ (start ≤ end) × (end < 2 ^ 32) ⌝ }
-    requires { ⌜ by ≤ end - start ⌝ }
+    requires { ⌜ ((start ≤ end) × (end < 2 ^ 32)) × (by ≤ end - start) ⌝ }
     requires { ⌜ j < 2 ^ 32 ⌝ }
     ensures { λ r. ⌜ r ≡ limbAt (rotateBitField (value (now (x .entry))) start end (pos by)) j ⌝ }
 {

@@ -74,11 +74,12 @@ fn measure_any(operation: Operation, x: &[u32], y: &[u32], z: &[u32], enough: us
     let mut high = limb_of(operation, x, y, z, n - 1);
     while 1 < n {
         let low = limb_of(operation, x, y, z, n - 2);
-        if !is_padding(low, high) {
+        if is_padding(low, high) {
+            high = low;
+            n -= 1;
+        } else {
             return n;
         }
-        high = low;
-        n -= 1;
     }
     n
 }
@@ -94,11 +95,12 @@ pub fn measure_common(by: Logic, x: &[u32], y: &[u32], enough: usize) -> usize
     let mut high = common_limb(by, x, y, n - 1);
     while 1 < n {
         let low = common_limb(by, x, y, n - 2);
-        if !is_padding(low, high) {
+        if is_padding(low, high) {
+            high = low;
+            n -= 1;
+        } else {
             return n;
         }
-        high = low;
-        n -= 1;
     }
     n
 }
@@ -115,11 +117,12 @@ fn measure_padded(by: Logic, x: &[u32], y: &[u32], enough: usize) -> usize
     let mut high = logical_limb(by, x, y, n - 1);
     while 1 < n {
         let low = logical_limb(by, x, y, n - 2);
-        if !is_padding(low, high) {
+        if is_padding(low, high) {
+            high = low;
+            n -= 1;
+        } else {
             return n;
         }
-        high = low;
-        n -= 1;
     }
     n
 }
