@@ -41,7 +41,7 @@ fn print_position_rule(third: Domain, fourth: Domain) {
     }
 }
 
-// The domains of an operation. Where any fixnum is taken, it is the result that must lie in one.
+// The domains of an operation. One whose arguments may be any fixnums is refused for its result.
 fn print_domains(signature: Signature) {
     let second = signature.second;
     let third = signature.third;
@@ -165,8 +165,8 @@ fn print_range(width: u64) {
     print_natural(before(half));
 }
 
-// Whether refusal 5 of an operation is about its result, since its arguments may be any fixnums.
-fn is_free(signature: Signature) -> bool {
+// Whether the arguments of an operation may be any fixnums, so that refusal 5 is about its result.
+fn takes_any(signature: Signature) -> bool {
     let second = signature.second;
     match second {
         Domain::Fixnum => true,
@@ -178,7 +178,7 @@ fn is_free(signature: Signature) -> bool {
 pub fn explain(width: u64, request: Request, refusal: u64) {
     let args = request.args;
     let signature = signature_of(request.code);
-    let of_result = refusal == 6 || (refusal == 5 && is_free(signature));
+    let of_result = refusal == 6 || (refusal == 5 && takes_any(signature));
     print_refused(refusal);
     if refusal == 4 {
         print_argument(first_wide(width, args), args);
