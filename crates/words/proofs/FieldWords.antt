@@ -11,10 +11,11 @@ use lib.Pow.{pow-pos, pow-add, low, high}
 use lib.IntN.{ℤ, pos, negsuc}
 use lib.Signed.{mag}
 use borrow.Author.Tests.{lt-ltb, eq-eqb, ne-eqb}
+use Rattle.bits.proofs.ShiftLaws.{testbit-shiftLeft}
 use Rattle.bits.specs.Testbit.{odd, testbit, fill, ofBits}
 use Rattle.words.specs.Sign.{ofMagnitude}
 use Rattle.bits.specs.Logical.{bitwiseNot}
-use Rattle.bits.specs.Shift.{floorDiv, shiftRight}
+use Rattle.bits.specs.Shift.{floorDiv, shiftRight, shiftLeft}
 use Rattle.bits.specs.Division.{modℕ, mod0}
 use Rattle.bits.specs.Field.{inField, copyBitField, copyBit}
 use Rattle.bits.proofs.FitsLaws.{holds, mag-fits}
@@ -39,6 +40,10 @@ testbit-mod-lt n = testbit-modℕ-lt (pos n)
 pub testbit-div : (n k i : ℕ) → testbit (pos (n / 2 ^ k)) i ≡ testbit (pos n) (k + i)
 unfolding shiftRight floorDiv
 testbit-div n = testbit-shiftRight (pos n)
+
+pub testbit-times : (n k i : ℕ) → testbit (pos (n * 2 ^ k)) i ≡ not (ltb i k) && testbit (pos n) (i - k)
+unfolding shiftLeft
+testbit-times n = testbit-shiftLeft (pos n)
 
 -- counted from bit 0 of n
 pub testbit-div-ge : (n k i : ℕ) → k ≤ i → testbit (pos (n / 2 ^ k)) (i - k) ≡ testbit (pos n) i
