@@ -1,6 +1,6 @@
 -- The results of each operation on fixnums are fixnums, by families of codes; a first result that is tested for its size is left out.
 -- Assumes nothing.
-use Prim.Native.Nat.{ℕ, zero, suc, _+_, _*_, _-_, _≤_, _<_, _^_}
+use Prim.Native.Nat.{ℕ, _+_, _*_, _-_, _≤_, _<_, _^_}
 use native.Mathlib.Nat.{le-suc, le-refl, mul-le-mul}
 use native.Mathlib.Omega.{arith}
 use mathlib.Core.Path.{_≡_, _∙_}
@@ -28,8 +28,7 @@ use Rattle.fxtable.specs.Domains.{isWidth, arg, accepts, inDomainsFrom, inDomai
 use Rattle.fxtable.specs.Operations.{resultsOf, every, one, two, three, four, question, truth, foldFrom, larger, smaller, largest, smallest, partsOf, carry, copyBitAt}
 use Rattle.fxtable.specs.Calls.{allFixnums}
 use Rattle.bits.proofs.Booleans.{both-left, both-right}
-use Rattle.fxtable.proofs.CallLaws.{between, width-bounds}
-use Rattle.fxtable.proofs.CallLaws.{right-fits}
+use Rattle.fxtable.proofs.CallLaws.{between, width-bounds, arg-fits, right-fits}
 use Rattle.fixnum_laws.proofs.Demand3.{all-fits}
 
 -- both results are fixnums
@@ -40,13 +39,6 @@ Fit w r = (fits w (r .0) ≡ true) × (fits w (r .1) ≡ true)
 pub record Fixnums (w : ℕ) (xs : List ℤ) : Type 0 where
   pub width : isWidth w ≡ true
   pub all : allFixnums w xs ≡ true
-
--- each argument is a fixnum, also past the last, where `arg` is 0
-arg-fits : (w : ℕ) (xs : List ℤ) → allFixnums w xs ≡ true → (i : ℕ) → fits w (arg xs i) ≡ true
-unfolding arg allFixnums
-arg-fits w [] f i = zero-fits w
-arg-fits w (x ∷ xs) f zero = both-left (fits w x) (allFixnums w xs) f
-arg-fits w (x ∷ xs) f (suc i) = arg-fits w xs (both-right (fits w x) (allFixnums w xs) f) i
 
 choice-fits : (w : ℕ) (t : Bool) (x y : ℤ) → fits w x ≡ true → fits w y ≡ true → fits w (cond t y x) ≡ true
 choice-fits w true x y f g = g

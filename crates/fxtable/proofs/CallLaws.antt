@@ -1,20 +1,20 @@
 -- What an accepted call says of its width, its count and its arguments; answers, from equal results. Assumes nothing.
 use Prim.Native.Nat.{ℕ, zero, suc, _-_, _≤_, _<_, _^_}
-use native.Mathlib.Nat.{le-antisymm, lt-of-lt-of-le, lt-of-le-of-lt, le-of-suc-le-suc, not-suc-le-zero}
+use native.Mathlib.Nat.{le-antisymm, lt-of-lt-of-le, lt-of-le-of-lt}
 use native.Mathlib.Omega.{arith}
 use mathlib.Core.Path.{_≡_, refl, sym, ap, _∙_, subst}
 use mathlib.Core.Bool.{Bool, true, false, _&&_, _||_}
 use mathlib.Core.List.{List, [], _∷_}
 use lib.Dec.{leb, eqb}
 use lib.IntN.{ℤ, pos, negsuc}
-use lib.ListN.{take}
-use lib.Pow.{pow-pos, pow-mono, shr-le}
+use lib.Pow.{pow-mono, shr-le}
 use lib.Seq.{getD-take}
 use lib.Signed.{mag}
 use mir.Syntax.{w64}
 use mir.Val.{toZ, ofZ}
 use borrow.Author.Tests.{leb-true, lt-ltb, ne-eqb}
 use Rattle.bits.proofs.Booleans.{both-left, both-right}
+use Rattle.bits.proofs.FitsLaws.{zero-fits}
 use Rattle.bits.specs.Testbit.{fits}
 use Rattle.bits.specs.Shift.{floorDiv, shiftRight}
 use Rattle.outcomes.specs.Outcome.{done, refuse}
@@ -52,14 +52,15 @@ arg-counted xs n i h = getD-take n xs i (pos 0) h
 pub arg-exactly : (xs : List ℤ) (n count i : ℕ) → leb n count && leb count n ≡ true → i < n → arg (counted xs count) i ≡ arg xs i
 arg-exactly xs n count i h k = arg-counted xs count i (subst (λ (m : ℕ). i < m) (sym (exactly n count h)) k)
 
--- each argument below the count is a fixnum
+-- each argument is a fixnum, also past the last, where `arg` is 0
+pub arg-fits : (w : ℕ) (xs : List ℤ) → allFixnums w xs ≡ true → (i : ℕ) → fits w (arg xs i) ≡ true
+unfolding arg allFixnums
+arg-fits w [] f i = zero-fits w
+arg-fits w (x ∷ xs) f zero = both-left (fits w x) (allFixnums w xs) f
+arg-fits w (x ∷ xs) f (suc i) = arg-fits w xs (both-right (fits w x) (allFixnums w xs) f) i
+
 pub fits-arg : (w : ℕ) (xs : List ℤ) (n i : ℕ) → allFixnums w (counted xs n) ≡ true → i < n → fits w (arg xs i) ≡ true
-unfolding arg counted allFixnums fits
-fits-arg w xs zero i h k = absurd (not-suc-le-zero k)
-fits-arg w [] (suc n) i h k = lt-ltb 0 (2 ^ (w - 1)) (pow-pos (w - 1))
-fits-arg w (x ∷ xs) (suc n) zero h k = both-left (fits w x) (allFixnums w (take n xs)) h
-fits-arg w (x ∷ xs) (suc n) (suc i) h k =
-    fits-arg w xs n i (both-right (fits w x) (allFixnums w (take n xs)) h) (le-of-suc-le-suc k)
+fits-arg w xs n i h k = subst (λ (x : ℤ). fits w x ≡ true) (arg-counted xs n i k) (arg-fits w (counted xs n) h i)
 
 -- a fixnum is a machine word
 pub fits-word : (w : ℕ) (x : ℤ) → isWidth w ≡ true → fits w x ≡ true → fits 64 x ≡ true

@@ -21,31 +21,8 @@ use Rattle.fxtable.specs.declared.domains.Domain.{Domain}
 use Rattle.fxtable.specs.declared.domains.Domain.the-variants.{Fixnum, Divisor, Position, FieldEnd, NewBit, SignedDistance, Distance, Rotation}
 use Rattle.fxtable.specs.declared.table.Signature.{Signature}
 use Rattle.fxtable.specs.Domains.{arg, domainAt}
-use Rattle.fxtable.specs.Operations.{
-  Results,
-  hasTwo,
-  every,
-  one,
-  two,
-  three,
-  four,
-  pair,
-  question,
-  equal,
-  greater,
-  greaterOrEqual,
-  chain,
-  isZero,
-  isPositive,
-  isBelowZero,
-  isOdd,
-  isEven,
-  largest,
-  smallest,
-  minus,
-  carry,
-  copyBitAt,
-}
+use Rattle.fxtable.specs.Operations.{Results, hasTwo, every, one, two, three, four, pair, question, equal, greater, greaterOrEqual}
+use Rattle.fxtable.specs.Operations.{chain, isZero, isPositive, isBelowZero, isOdd, isEven, largest, smallest, minus, carry, copyBitAt}
 
 -- The refusal for overflow: code 15's is 5, an assertion; that of the others 6, a restriction. An operation whose results are
 -- always fixnums has none.

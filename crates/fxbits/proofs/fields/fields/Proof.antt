@@ -39,7 +39,7 @@ positions c = (
 bounds : (c : tie.After-absolute2) → (c .before .before .absolute .result ≤ c .absolute2 .result) × (c .absolute2 .result < 64)
 bounds c = let f = field-call (start c .pre .1) (start c .pre .0) in omega (arith, positions c, f .ordered, f .below)
 
--- what an operation makes of the words, and of the places
+-- what an operation makes of the words, and of the arguments
 on-field : (c : tie.After-absolute2) (F : ℤ → ℕ → ℕ → ℤ) → F (toZ w64 (ofZ w64 (arg (start c .args .t3) 0))) (c .before .before .absolute .result) (c .absolute2 .result)
     ≡ F (arg (start c .args .t3) 0) (natAbs (arg (start c .args .t3) 1)) (natAbs (arg (start c .args .t3) 2))
 on-field c F = cc (number c, positions c .0, positions c .1)
