@@ -35,10 +35,12 @@ pub fn operate(width: u64, code: u64, args: [i64; 4], count: u64) -> Answer
             arithmetic(width, code, args, count)
         }
     } else if code <= 29 {
-        if code <= 21 {
-            divide(width, code, args, count)
-        } else if code <= 24 {
-            carry(width, code, args, count)
+        if code <= 24 {
+            if code <= 21 {
+                divide(width, code, args, count)
+            } else {
+                carry(width, code, args, count)
+            }
         } else {
             logical(width, code, args, count)
         }

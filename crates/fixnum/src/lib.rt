@@ -8,9 +8,9 @@ use dispatch::operate;
 use fxtable::answer::Answer;
 use fxtable::answer::refuse;
 use fxtable::domains::in_domains;
-use fxtable::loops::all_fixnums;
 use fxtable::table::is_code;
 use fxtable::table::is_count;
+use fxtable::width::all_fixnums;
 use fxtable::width::is_width;
 
 // The answer of the operation with a code, at a width, to the first `count` elements of `args`. Refusals in this order: 1 for the

@@ -12,8 +12,8 @@ use super::chain::chain;
 use fxtable::answer::Answer;
 use fxtable::answer::done;
 use fxtable::answer::question;
-use fxtable::loops::Fold;
-use fxtable::loops::fold_all;
+use fxtable::fold::Fold;
+use fxtable::fold::fold_all;
 use words::sign::absolute;
 
 fn relation(code: u64) -> Relation

@@ -5,8 +5,8 @@ ghost use Rattle.fxtable.specs.Answers.{answer};
 ghost use Rattle.fxtable.specs.Calls.{Accepted, counted, outcome};
 use fxtable::answer::Answer;
 use fxtable::answer::done;
-use fxtable::loops::Fold;
-use fxtable::loops::fold_all;
+use fxtable::fold::Fold;
+use fxtable::fold::fold_all;
 use words::logical::and;
 use words::logical::ior;
 

@@ -41,7 +41,7 @@ exactly n count h = le-antisymm (between n count n h .1) (between n count n h .0
 -- every law above says no more of a width than this
 pub width-bounds : (w : ℕ) → isWidth w ≡ true → (24 ≤ w) × (w ≤ 64)
 unfolding isWidth leastWidth largestWidth
-width-bounds w h = let b = between 24 w 62 h in (b .0, omega arith)
+width-bounds w h = let b = between leastWidth w largestWidth h in (b .0, omega arith)
 
 -- an argument below the count is the slot
 pub arg-counted : (xs : List ℤ) (n i : ℕ) → i < n → arg (counted xs n) i ≡ arg xs i

@@ -16,7 +16,7 @@ use Rattle.fxtable.specs.Operations.{every, foldFrom}
 use Rattle.bits.specs.Logical.{bitwise, bitwiseFrom}
 use Rattle.outcomes.specs.Outcome.{done}
 use Rattle.fxtable.specs.declared.answer.Answer.{Answer}
-use Rattle.fxtable.specs.declared.loops.Fold.{Fold}
+use Rattle.fxtable.specs.declared.fold.Fold.{Fold}
 use Rattle.fxtable.specs.Answers.{answer}
 use Rattle.fxtable.specs.Folds.{step}
 use Rattle.fxtable.specs.Table.{row, rowOf, never}

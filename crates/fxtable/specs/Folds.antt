@@ -2,8 +2,8 @@
 --   step fold x y         ==  what a fold makes of its value x and the next argument y
 use lib.IntN.{ℤ}
 use Rattle.bits.specs.Logical.{bitwiseAnd, bitwiseIor, bitwiseXor}
-use Rattle.fxtable.specs.declared.loops.Fold.{Fold}
-use Rattle.fxtable.specs.declared.loops.Fold.the-variants.{Largest, Smallest, And, Ior, Xor}
+use Rattle.fxtable.specs.declared.fold.Fold.{Fold}
+use Rattle.fxtable.specs.declared.fold.Fold.the-variants.{Largest, Smallest, And, Ior, Xor}
 use Rattle.fxtable.specs.Operations.{larger, smaller}
 
 unfoldable pub step : Fold → ℤ → ℤ → ℤ

@@ -4,6 +4,7 @@ ghost use Rattle.fxtable.specs.Operations.{hasTwo};
 ghost use Rattle.fxtable.specs.Table.{isCode, rowOf, signatureFrom, signatureOf};
 ghost use Rattle.fxtable.specs.Calls.{isCount};
 use super::domains::Domain;
+use super::domains::Domain as D;
 
 const CODES: u64 = 41;
 
@@ -50,111 +51,48 @@ pub fn signature_of(code: u64) -> Signature
     ensures { λ r. ⌜ r ≡ signatureOf code ⌝ }
 {
     match code {
-        1 => row(2, 4, Domain::Fixnum, Domain::Fixnum, Domain::Fixnum, false), // fx=?
-        2 => row(2, 4, Domain::Fixnum, Domain::Fixnum, Domain::Fixnum, false), // fx>?
-        3 => row(2, 4, Domain::Fixnum, Domain::Fixnum, Domain::Fixnum, false), // fx<?
-        4 => row(2, 4, Domain::Fixnum, Domain::Fixnum, Domain::Fixnum, false), // fx>=?
-        5 => row(2, 4, Domain::Fixnum, Domain::Fixnum, Domain::Fixnum, false), // fx<=?
-        6 => row(1, 1, Domain::Fixnum, Domain::Fixnum, Domain::Fixnum, false), // fxzero?
-        7 => row(1, 1, Domain::Fixnum, Domain::Fixnum, Domain::Fixnum, false), // fxpositive?
-        8 => row(1, 1, Domain::Fixnum, Domain::Fixnum, Domain::Fixnum, false), // fxnegative?
-        9 => row(1, 1, Domain::Fixnum, Domain::Fixnum, Domain::Fixnum, false), // fxodd?
-        10 => row(1, 1, Domain::Fixnum, Domain::Fixnum, Domain::Fixnum, false), // fxeven?
-        11 => row(1, 4, Domain::Fixnum, Domain::Fixnum, Domain::Fixnum, false), // fxmax
-        12 => row(1, 4, Domain::Fixnum, Domain::Fixnum, Domain::Fixnum, false), // fxmin
-        13 => row(2, 2, Domain::Fixnum, Domain::Fixnum, Domain::Fixnum, false), // fx+
-        14 => row(2, 2, Domain::Fixnum, Domain::Fixnum, Domain::Fixnum, false), // fx*
-        15 => row(1, 2, Domain::Fixnum, Domain::Fixnum, Domain::Fixnum, false), // fx-
-        16 => row(2, 2, Domain::Divisor, Domain::Fixnum, Domain::Fixnum, false), // fxdiv
-        17 => row(2, 2, Domain::Divisor, Domain::Fixnum, Domain::Fixnum, false), // fxmod
-        18 => row(2, 2, Domain::Divisor, Domain::Fixnum, Domain::Fixnum, true), // fxdiv-and-mod
-        19 => row(2, 2, Domain::Divisor, Domain::Fixnum, Domain::Fixnum, false), // fxdiv0
-        20 => row(2, 2, Domain::Divisor, Domain::Fixnum, Domain::Fixnum, false), // fxmod0
-        21 => row(2, 2, Domain::Divisor, Domain::Fixnum, Domain::Fixnum, true), // fxdiv0-and-mod0
-        22 => row(3, 3, Domain::Fixnum, Domain::Fixnum, Domain::Fixnum, true), // fx+/carry
-        23 => row(3, 3, Domain::Fixnum, Domain::Fixnum, Domain::Fixnum, true), // fx-/carry
-        24 => row(3, 3, Domain::Fixnum, Domain::Fixnum, Domain::Fixnum, true), // fx*/carry
-        25 => row(1, 1, Domain::Fixnum, Domain::Fixnum, Domain::Fixnum, false), // fxnot
-        26 => row(0, 4, Domain::Fixnum, Domain::Fixnum, Domain::Fixnum, false), // fxand
-        27 => row(0, 4, Domain::Fixnum, Domain::Fixnum, Domain::Fixnum, false), // fxior
-        28 => row(0, 4, Domain::Fixnum, Domain::Fixnum, Domain::Fixnum, false), // fxxor
-        29 => row(3, 3, Domain::Fixnum, Domain::Fixnum, Domain::Fixnum, false), // fxif
-        30 => row(1, 1, Domain::Fixnum, Domain::Fixnum, Domain::Fixnum, false), // fxbit-count
-        31 => row(1, 1, Domain::Fixnum, Domain::Fixnum, Domain::Fixnum, false), // fxlength
-        32 => row(1, 1, Domain::Fixnum, Domain::Fixnum, Domain::Fixnum, false), // fxfirst-bit-set
-        33 => row(
-            2,
-            2,
-            Domain::Position,
-            Domain::Fixnum,
-            Domain::Fixnum,
-            false,
-        ), // fxbit-set?
-        34 => row(
-            3,
-            3,
-            Domain::Position,
-            Domain::NewBit,
-            Domain::Fixnum,
-            false,
-        ), // fxcopy-bit
-        35 => row(
-            3,
-            3,
-            Domain::Position,
-            Domain::FieldEnd,
-            Domain::Fixnum,
-            false,
-        ), // fxbit-field
-        36 => row(
-            4,
-            4,
-            Domain::Position,
-            Domain::FieldEnd,
-            Domain::Fixnum,
-            false,
-        ), // fxcopy-bit-field
-        37 => row(
-            2,
-            2,
-            Domain::SignedDistance,
-            Domain::Fixnum,
-            Domain::Fixnum,
-            false,
-        ), // fxarithmetic-shift
-        38 => row(
-            2,
-            2,
-            Domain::Distance,
-            Domain::Fixnum,
-            Domain::Fixnum,
-            false,
-        ), // fxarithmetic-shift-left
-        39 => row(
-            2,
-            2,
-            Domain::Distance,
-            Domain::Fixnum,
-            Domain::Fixnum,
-            false,
-        ), // fxarithmetic-shift-right
-        40 => row(
-            4,
-            4,
-            Domain::Position,
-            Domain::FieldEnd,
-            Domain::Rotation,
-            false,
-        ), // fxrotate-bit-field
-        41 => row(
-            3,
-            3,
-            Domain::Position,
-            Domain::FieldEnd,
-            Domain::Fixnum,
-            false,
-        ), // fxreverse-bit-field
-        _ => row(1, 0, Domain::Fixnum, Domain::Fixnum, Domain::Fixnum, false),
+        1 => row(2, 4, D::Fixnum, D::Fixnum, D::Fixnum, false), // fx=?
+        2 => row(2, 4, D::Fixnum, D::Fixnum, D::Fixnum, false), // fx>?
+        3 => row(2, 4, D::Fixnum, D::Fixnum, D::Fixnum, false), // fx<?
+        4 => row(2, 4, D::Fixnum, D::Fixnum, D::Fixnum, false), // fx>=?
+        5 => row(2, 4, D::Fixnum, D::Fixnum, D::Fixnum, false), // fx<=?
+        6 => row(1, 1, D::Fixnum, D::Fixnum, D::Fixnum, false), // fxzero?
+        7 => row(1, 1, D::Fixnum, D::Fixnum, D::Fixnum, false), // fxpositive?
+        8 => row(1, 1, D::Fixnum, D::Fixnum, D::Fixnum, false), // fxnegative?
+        9 => row(1, 1, D::Fixnum, D::Fixnum, D::Fixnum, false), // fxodd?
+        10 => row(1, 1, D::Fixnum, D::Fixnum, D::Fixnum, false), // fxeven?
+        11 => row(1, 4, D::Fixnum, D::Fixnum, D::Fixnum, false), // fxmax
+        12 => row(1, 4, D::Fixnum, D::Fixnum, D::Fixnum, false), // fxmin
+        13 => row(2, 2, D::Fixnum, D::Fixnum, D::Fixnum, false), // fx+
+        14 => row(2, 2, D::Fixnum, D::Fixnum, D::Fixnum, false), // fx*
+        15 => row(1, 2, D::Fixnum, D::Fixnum, D::Fixnum, false), // fx-
+        16 => row(2, 2, D::Divisor, D::Fixnum, D::Fixnum, false), // fxdiv
+        17 => row(2, 2, D::Divisor, D::Fixnum, D::Fixnum, false), // fxmod
+        18 => row(2, 2, D::Divisor, D::Fixnum, D::Fixnum, true), // fxdiv-and-mod
+        19 => row(2, 2, D::Divisor, D::Fixnum, D::Fixnum, false), // fxdiv0
+        20 => row(2, 2, D::Divisor, D::Fixnum, D::Fixnum, false), // fxmod0
+        21 => row(2, 2, D::Divisor, D::Fixnum, D::Fixnum, true), // fxdiv0-and-mod0
+        22 => row(3, 3, D::Fixnum, D::Fixnum, D::Fixnum, true), // fx+/carry
+        23 => row(3, 3, D::Fixnum, D::Fixnum, D::Fixnum, true), // fx-/carry
+        24 => row(3, 3, D::Fixnum, D::Fixnum, D::Fixnum, true), // fx*/carry
+        25 => row(1, 1, D::Fixnum, D::Fixnum, D::Fixnum, false), // fxnot
+        26 => row(0, 4, D::Fixnum, D::Fixnum, D::Fixnum, false), // fxand
+        27 => row(0, 4, D::Fixnum, D::Fixnum, D::Fixnum, false), // fxior
+        28 => row(0, 4, D::Fixnum, D::Fixnum, D::Fixnum, false), // fxxor
+        29 => row(3, 3, D::Fixnum, D::Fixnum, D::Fixnum, false), // fxif
+        30 => row(1, 1, D::Fixnum, D::Fixnum, D::Fixnum, false), // fxbit-count
+        31 => row(1, 1, D::Fixnum, D::Fixnum, D::Fixnum, false), // fxlength
+        32 => row(1, 1, D::Fixnum, D::Fixnum, D::Fixnum, false), // fxfirst-bit-set
+        33 => row(2, 2, D::Position, D::Fixnum, D::Fixnum, false), // fxbit-set?
+        34 => row(3, 3, D::Position, D::NewBit, D::Fixnum, false), // fxcopy-bit
+        35 => row(3, 3, D::Position, D::FieldEnd, D::Fixnum, false), // fxbit-field
+        36 => row(4, 4, D::Position, D::FieldEnd, D::Fixnum, false), // fxcopy-bit-field
+        37 => row(2, 2, D::SignedDistance, D::Fixnum, D::Fixnum, false), // fxarithmetic-shift
+        38 => row(2, 2, D::Distance, D::Fixnum, D::Fixnum, false), // fxarithmetic-shift-left
+        39 => row(2, 2, D::Distance, D::Fixnum, D::Fixnum, false), // fxarithmetic-shift-right
+        40 => row(4, 4, D::Position, D::FieldEnd, D::Rotation, false), // fxrotate-bit-field
+        41 => row(3, 3, D::Position, D::FieldEnd, D::Fixnum, false), // fxreverse-bit-field
+        _ => row(1, 0, D::Fixnum, D::Fixnum, D::Fixnum, false),
     }
 }
 

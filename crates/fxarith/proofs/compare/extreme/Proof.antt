@@ -7,8 +7,8 @@ use lib.IntN.{ℤ}
 use mir.Syntax.{w64}
 use mir.Val.{toZ, ofZ}
 use Rattle.words.proofs.WordLaws.{back-word}
-use Rattle.fxtable.specs.declared.loops.Fold.{Fold}
-use Rattle.fxtable.specs.declared.loops.Fold.the-variants.{Largest, Smallest}
+use Rattle.fxtable.specs.declared.fold.Fold.{Fold}
+use Rattle.fxtable.specs.declared.fold.Fold.the-variants.{Largest, Smallest}
 use Rattle.fxtable.specs.Domains.{arg}
 use Rattle.fxtable.specs.Operations.{every, foldFrom, largest, smallest}
 use Rattle.fxtable.specs.Folds.{step}

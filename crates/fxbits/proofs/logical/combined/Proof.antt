@@ -6,7 +6,7 @@ use mathlib.Core.Bool.{_&&_, _||_, xor}
 use lib.IntN.{pos, negsuc}
 use Rattle.bits.specs.Testbit.{fill}
 use Rattle.bits.specs.Logical.{bitwiseAnd, bitwiseIor, bitwiseXor, bitwiseAll, bitwiseAnds, bitwiseIors, bitwiseXors}
-use Rattle.fxtable.specs.declared.loops.Fold.the-variants.{And, Ior, Xor}
+use Rattle.fxtable.specs.declared.fold.Fold.the-variants.{And, Ior, Xor}
 use Rattle.fxtable.specs.Folds.{step}
 use Rattle.fxtable.specs.Table.{rows, rowOf}
 use Rattle.fxtable.proofs.TableLaws.{at-most-four}
