@@ -14,9 +14,9 @@ use Rattle.outcomes.specs.Buffer.{capacity, laid, fitted, afterwards, countOf}
 use Rattle.limbwords.specs.Value.{onTop, value, limbsOf, limbCount, shortest}
 use Rattle.limbs.specs.Buffer.{stored, written}
 use Rattle.limbs.specs.Operations.{mostLimbs, isOperand, operand, natural, isField, field, rotateOutcome, reverseOutcome}
-use Rattle.limb_laws.specs.Lists.{Step, callsOf, outcomeOf, answerOf, handOn, hasRoom, runSteps, isDone}
+use Rattle.limb_laws.specs.Lists.{Step, callsOf, outcomeOf, answerOf, handOn, allFit, runSteps, isDone}
 
--- Rotate by 5, rotate by -1, which is refused and asks for no room, and reverse, in three buffers.
+-- Rotate by 5, rotate by -1, which is refused and needs no capacity, and reverse, in three buffers.
 abbrev threeSteps : List Step
 threeSteps =
     record { call = rotate (pos 5); out = 7 ∷ 7 ∷ 7 ∷ []; first = 1 }
@@ -26,11 +26,11 @@ threeSteps =
 
 -- the limbs at the end on the field from 3 to 40, from two limbs; the second list ends at one
 pub cases-list :
-    (hasRoom 3 40 threeSteps (0x89ABCDEF ∷ 0xFEDCBA98 ∷ []) ≡ true)
+    (allFit 3 40 threeSteps (0x89ABCDEF ∷ 0xFEDCBA98 ∷ []) ≡ true)
     × (runSteps 3 40 threeSteps (0x89ABCDEF ∷ 0xFEDCBA98 ∷ []) ≡ 0xECF56447 ∷ 0xFEDCBACD ∷ [])
     × (netCount isDone 37 (callsOf threeSteps) ≡ pos 32)
     × (runSteps 3 40 threeSteps (0x80000007 ∷ 0 ∷ []) ≡ 0x47 ∷ [])
 unfolding odd testbit halvings bitLength consBit ofBits isNegative fill floorDiv shiftRight modℕ «mod» inField setField permuteField rotateIndex
     reverseIndex rotateBitField reverseBitField onTop value limbsOf limbCount shortest guard guardAt mapDone refusalOf countOf capacity laid fitted stored written afterwards
-    mostLimbs isOperand operand natural within isField field rotateOutcome reverseOutcome callsOf outcomeOf answerOf handOn hasRoom runSteps isDone countCall netCountFrom netCount
+    mostLimbs isOperand operand natural within isField field rotateOutcome reverseOutcome callsOf outcomeOf answerOf handOn allFit runSteps isDone countCall netCountFrom netCount
 cases-list = (refl, refl, refl, refl)

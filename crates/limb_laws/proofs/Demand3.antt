@@ -1,4 +1,4 @@
--- Demand 3 for limbs: every list of rotate and reverse calls on a field, in any buffers with room. Assumes nothing.
+-- Demand 3 for limbs: every list of rotate and reverse calls on a field, in any buffers that are long enough. Assumes nothing.
 use Prim.Native.Nat.{ℕ, zero-le, _-_, _≤_, _<_, _^_}
 use native.Mathlib.Nat.{le-trans, le-of-lt, lt-of-lt-of-le}
 use native.Mathlib.Omega.{arith}
@@ -28,7 +28,7 @@ use Rattle.outcomes.proofs.OutcomeLaws.{passed, done-injective}
 use Rattle.outcomes.proofs.BufferLaws.{laid-copy}
 use Rattle.limbs.specs.Buffer.{stored, written}
 use Rattle.limbs.specs.Operations.{mostLimbs, isOperand, isField, field, notOutcome, bitwiseOutcome, rotateOutcome, reverseOutcome, bitCountOutcome, natural}
-use Rattle.limb_laws.specs.Lists.{Step, callsOf, outcomeOf, answerOf, handOn, hasRoom, runSteps, isDone, anyDone, resultOf, turned, ample, Run, ListStatement}
+use Rattle.limb_laws.specs.Lists.{Step, callsOf, outcomeOf, answerOf, handOn, allFit, runSteps, isDone, anyDone, resultOf, turned, ample, Run, ListStatement}
 use Rattle.limbwords.proofs.ValueLaws.{value-length, value-shortest, length-shortest, limbCount-positive}
 use Rattle.limbs.proofs.StageLaws.{operand-passed, operand-lengths}
 use Rattle.limbs.proofs.WritesLaws.{shortest-operand}
@@ -51,7 +51,7 @@ module _ (s : Step) (x : List ℕ) (z : ℤ) where
   abbrev Fits : Type 0
   Fits = length (shortest z) ≤ capacity (s .out) (s .first)
 
-  -- of an outcome that is z where d says so, and else refusal 5: z that fits has room; with room, the refusal number, and the limbs that are handed on
+  -- of an outcome that is z where d says so, and else refusal 5: z that fits is not refused by 8; without 8, the refusal number, and the limbs that are handed on
   record Given (d : Bool) (o : Outcome ℤ) : Type 0 where
     pub fitting : Fits → not (eqb (answer o .refusal) 8) ≡ true
     pub ruled : not (eqb (answer o .refusal) 8) ≡ true → answer o .refusal ≡ cond d 0 5
@@ -130,17 +130,17 @@ module _ (start end : ℕ) (h : start < end) (k : end ≤ 32767) where
         subst (Given s x result (isDone (s .call))) (sym (outcome-is (s .call) x f))
         (given s x result (isDone (s .call)))
 
-    abbrev Roomy : Type 0
-    Roomy = not (eqb (answerOf start end s x .refusal) 8) ≡ true
+    abbrev Fitting : Type 0
+    Fitting = not (eqb (answerOf start end s x .refusal) 8) ≡ true
 
-    -- room for 1,024 limbs is enough
-    ample-roomy : leb mostLimbs (capacity (s .out) (s .first)) ≡ true → Roomy
+    -- a capacity of 1,024 limbs is enough
+    ample-fits : leb mostLimbs (capacity (s .out) (s .first)) ≡ true → Fitting
     unfolding answerOf mostLimbs
-    ample-roomy a =
+    ample-fits a =
         let l = operand-lengths (shortest result) (next-legal true (s .call) x f) .1 in
         step .fitting (le-trans l (leb-true mostLimbs (capacity (s .out) (s .first)) a))
 
-    module _ (r : Roomy) where
+    module _ (r : Fitting) where
       refusal-is : answerOf start end s x .refusal ≡ cond (isDone (s .call)) 0 5
       unfolding answerOf
       refusal-is = step .ruled r
@@ -152,29 +152,29 @@ module _ (start end : ℕ) (h : start < end) (k : end ≤ 32767) where
       handed-legal : isOperand (handOn start end s x) ≡ true
       handed-legal = ap isOperand handed-on ∙ next-legal (isDone (s .call)) (s .call) x f
 
-  always-room : (steps : List Step) (x : List ℕ) → isOperand x ≡ true → ample steps ≡ true → hasRoom start end steps x ≡ true
-  unfolding hasRoom ample
-  always-room [] x f a = refl
-  always-room (s ∷ steps) x f a =
-      let r = ample-roomy s x f (both-left (leb mostLimbs (capacity (s .out) (s .first))) (ample steps) a) in
+  always-fit : (steps : List Step) (x : List ℕ) → isOperand x ≡ true → ample steps ≡ true → allFit start end steps x ≡ true
+  unfolding allFit ample
+  always-fit [] x f a = refl
+  always-fit (s ∷ steps) x f a =
+      let r = ample-fits s x f (both-left (leb mostLimbs (capacity (s .out) (s .first))) (ample steps) a) in
       rw r
-      (always-room steps (handOn start end s x) (handed-legal s x f r) (both-right (leb mostLimbs (capacity (s .out) (s .first))) (ample steps) a))
+      (always-fit steps (handOn start end s x) (handed-legal s x f r) (both-right (leb mostLimbs (capacity (s .out) (s .first))) (ample steps) a))
 
   -- ---- a step and the rest of its list
 
   module _ (s : Step) (steps : List Step) (x : List ℕ) (r : Run start end (s ∷ steps) x) where
-    roomy : Roomy s x (r .legal)
-    unfolding hasRoom
-    roomy = both-left (not (eqb (answerOf start end s x .refusal) 8)) (hasRoom start end steps (handOn start end s x)) (r .room)
+    fits-buffer : Fitting s x (r .legal)
+    unfolding allFit
+    fits-buffer = both-left (not (eqb (answerOf start end s x .refusal) 8)) (allFit start end steps (handOn start end s x)) (r .fitting)
 
     given-next : handOn start end s x ≡ next (isDone (s .call)) (s .call) x
-    given-next = handed-on s x (r .legal) roomy
+    given-next = handed-on s x (r .legal) fits-buffer
 
     rest : Run start end steps (handOn start end s x)
-    unfolding hasRoom
+    unfolding allFit
     rest = record {
-      legal = handed-legal s x (r .legal) roomy;
-      room = both-right (not (eqb (answerOf start end s x .refusal) 8)) (hasRoom start end steps (handOn start end s x)) (r .room);
+      legal = handed-legal s x (r .legal) fits-buffer;
+      fitting = both-right (not (eqb (answerOf start end s x .refusal) 8)) (allFit start end steps (handOn start end s x)) (r .fitting);
     }
 
   -- ---- lists
@@ -246,17 +246,17 @@ module _ (start end : ℕ) (h : start < end) (k : end ≤ 32767) where
 
   -- a list from the limbs that a call writes
   from-result : (o : Outcome ℤ) (z : ℤ) (steps : List Step) (calls : List FieldCall) → o ≡ done z → fits 32768 z ≡ true
-      → hasRoom start end steps (resultOf o) ≡ true → calls ≡ callsOf steps → value (runSteps start end steps (resultOf o)) ≡ calls-end calls z
+      → allFit start end steps (resultOf o) ≡ true → calls ≡ callsOf steps → value (runSteps start end steps (resultOf o)) ≡ calls-end calls z
   unfolding resultOf
   from-result o z steps calls e f r c =
-      agree steps (resultOf o) (record { legal = ap (λ (o : Outcome ℤ). isOperand (resultOf o)) e ∙ shortest-operand z f; room = r })
+      agree steps (resultOf o) (record { legal = ap (λ (o : Outcome ℤ). isOperand (resultOf o)) e ∙ shortest-operand z f; fitting = r })
       ∙ ap₂ calls-end (sym c) (ap (λ (o : Outcome ℤ). value (resultOf o)) e ∙ value-shortest z)
 
   not-is : (x : List ℕ) → isOperand x ≡ true → notOutcome x ≡ done (bitwiseNot (value x))
   unfolding notOutcome
   not-is x f = operand-passed x (done (bitwiseNot (value x))) f
 
-  nots : (steps steps′ : List Step) (x : List ℕ) → Run start end steps x → hasRoom start end steps′ (resultOf (notOutcome x)) ≡ true
+  nots : (steps steps′ : List Step) (x : List ℕ) → Run start end steps x → allFit start end steps′ (resultOf (notOutcome x)) ≡ true
       → callsOf steps ≡ callsOf steps′
       → notOutcome (runSteps start end steps x) ≡ done (value (runSteps start end steps′ (resultOf (notOutcome x))))
   nots steps steps′ x r r′ c =
@@ -273,7 +273,7 @@ module _ (start end : ℕ) (h : start < end) (k : end ≤ 32767) where
   bitwise-is op x y f g = operand-passed x _ f ∙ operand-passed y _ g
 
   distributed : (op : Bool → Bool → Bool) (steps steps′ steps″ : List Step) (x y : List ℕ) → Run start end steps x → Run start end steps′ y
-      → hasRoom start end steps″ (resultOf (bitwiseOutcome op x y)) ≡ true → callsOf steps ≡ callsOf steps′ → callsOf steps ≡ callsOf steps″
+      → allFit start end steps″ (resultOf (bitwiseOutcome op x y)) ≡ true → callsOf steps ≡ callsOf steps′ → callsOf steps ≡ callsOf steps″
       → bitwiseOutcome op (runSteps start end steps x) (runSteps start end steps′ y)
       ≡ done (value (runSteps start end steps″ (resultOf (bitwiseOutcome op x y))))
   distributed op steps steps′ steps″ x y r r′ r″ c c′ =
@@ -306,8 +306,8 @@ module _ (start end : ℕ) (h : start < end) (k : end ≤ 32767) where
 
 pub demand3-limbs : (start end : ℕ) → start < end → end ≤ 32767 → ListStatement start end
 demand3-limbs start end h k = record {
-  rule = λ s x r. refusal-is start end h k s x (r .legal) (roomy start end h k s [] x r);
-  enough = always-room start end h k;
+  rule = λ s x r. refusal-is start end h k s x (r .legal) (fits-buffer start end h k s [] x r);
+  enough = always-fit start end h k;
   legal = run-legal start end h k;
   form = formed start end h k;
   end-number = ends start end h k;

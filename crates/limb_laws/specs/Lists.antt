@@ -4,13 +4,13 @@
 --   outcomeOf start end call x     ==  the outcome of a rotate or a reverse on the limbs x
 --   answerOf start end s x         ==  the answer of a step on the limbs x
 --   handOn start end s x           ==  what the next call gets: a copy of the limbs that were written, or x where the answer is a refusal
---   hasRoom start end steps x      ==  no step of the list lacks room for its result
+--   allFit start end steps x      ==  no result of the list is longer than the capacity of its buffer
 --   runSteps start end steps x     ==  the limbs at the end of the list, from x
 --   isDone call                    ==  which calls are done, by 01's refusal table: a rotate whose count is at least 0, a reverse
 --   anyDone calls                  ==  whether at least one of the calls is done
---   resultOf o                     ==  the limbs that a call with the outcome o writes where it has room: none for a refusal
+--   resultOf o                     ==  the limbs that a call with the outcome o writes where they fit: none for a refusal
 --   turned start end calls x       ==  x, or the limbs that reverse writes for it where the done reversals are odd in number
---   ample steps                    ==  each buffer has room for 1,024 limbs
+--   ample steps                    ==  each buffer has a capacity of 1,024 limbs
 --   ListStatement start end        ==  what demand 3 says of the field
 use Prim.Native.Nat.{ℕ, _-_, _<_}
 use mathlib.Core.Path.{_≡_}
@@ -52,9 +52,9 @@ handOn start end s x =
     (take (answerOf start end s x .length) (drop (s .first) (afterwards (stored (outcomeOf start end (s .call) x) (s .out) (s .first)) (s .out) (s .first))))
     x
 
-unfoldable pub hasRoom : ℕ → ℕ → List Step → List ℕ → Bool
-hasRoom start end [] x = true
-hasRoom start end (s ∷ steps) x = not (eqb (answerOf start end s x .refusal) 8) && hasRoom start end steps (handOn start end s x)
+unfoldable pub allFit : ℕ → ℕ → List Step → List ℕ → Bool
+allFit start end [] x = true
+allFit start end (s ∷ steps) x = not (eqb (answerOf start end s x .refusal) 8) && allFit start end steps (handOn start end s x)
 
 unfoldable pub runSteps : ℕ → ℕ → List Step → List ℕ → List ℕ
 runSteps start end [] x = x
@@ -79,16 +79,16 @@ unfoldable pub ample : List Step → Bool
 ample [] = true
 ample (s ∷ steps) = leb mostLimbs (capacity (s .out) (s .first)) && ample steps
 
--- a list from legal limbs, with room for each result
+-- a list from legal limbs, where each result fits its buffer
 pub record Run (start end : ℕ) (steps : List Step) (x : List ℕ) : Type 0 where
   pub legal : isOperand x ≡ true
-  pub room : hasRoom start end steps x ≡ true
+  pub fitting : allFit start end steps x ≡ true
 
 pub record ListStatement (start end : ℕ) : Type 0 where
-  -- a call with room is done exactly where its count says so; else it is refused by 5
+  -- a call whose result fits is done exactly where its count says so; else it is refused by 5
   pub rule : (s : Step) (x : List ℕ) → Run start end (s ∷ []) x → answerOf start end s x .refusal ≡ cond (isDone (s .call)) 0 5
-  -- buffers with room for 1,024 limbs are always enough
-  pub enough : (steps : List Step) (x : List ℕ) → isOperand x ≡ true → ample steps ≡ true → hasRoom start end steps x ≡ true
+  -- capacities of 1,024 limbs are always enough
+  pub enough : (steps : List Step) (x : List ℕ) → isOperand x ≡ true → ample steps ≡ true → allFit start end steps x ≡ true
   -- the limbs at the end are legal; they are x where no call is done, and else the shortest of their integer: equal integers have equal limbs
   pub legal : (steps : List Step) (x : List ℕ) → Run start end steps x → isOperand (runSteps start end steps x) ≡ true
   pub form : (steps : List Step) (x : List ℕ) → Run start end steps x
@@ -106,12 +106,12 @@ pub record ListStatement (start end : ℕ) : Type 0 where
   pub same-integer : (steps steps′ : List Step) (x y : List ℕ) → Run start end steps x → Run start end steps′ y → callsOf steps ≡ callsOf steps′
       → value x ≡ value y → value (runSteps start end steps x) ≡ value (runSteps start end steps′ y)
   -- from what not writes for x, a list ends at what not answers for its end from x; all these calls are done
-  pub commutes-not : (steps steps′ : List Step) (x : List ℕ) → Run start end steps x → hasRoom start end steps′ (resultOf (notOutcome x)) ≡ true
+  pub commutes-not : (steps steps′ : List Step) (x : List ℕ) → Run start end steps x → allFit start end steps′ (resultOf (notOutcome x)) ≡ true
       → callsOf steps ≡ callsOf steps′
       → notOutcome (runSteps start end steps x) ≡ done (value (runSteps start end steps′ (resultOf (notOutcome x))))
   -- the same for and, ior, xor of two, and for any other Boolean operation
   pub distributes : (op : Bool → Bool → Bool) (steps steps′ steps″ : List Step) (x y : List ℕ) → Run start end steps x → Run start end steps′ y
-      → hasRoom start end steps″ (resultOf (bitwiseOutcome op x y)) ≡ true → callsOf steps ≡ callsOf steps′ → callsOf steps ≡ callsOf steps″
+      → allFit start end steps″ (resultOf (bitwiseOutcome op x y)) ≡ true → callsOf steps ≡ callsOf steps′ → callsOf steps ≡ callsOf steps″
       → bitwiseOutcome op (runSteps start end steps x) (runSteps start end steps′ y)
       ≡ done (value (runSteps start end steps″ (resultOf (bitwiseOutcome op x y))))
   -- different counts differ on the limbs of some integer

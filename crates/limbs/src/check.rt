@@ -2,10 +2,10 @@
 ghost use mathlib.Core.Path.{_≡_};
 ghost use mathlib.Core.Bool.{_&&_};
 ghost use lib.IntN.{natAbs};
-ghost use Rattle.bits.specs.Range as range;
 ghost use Rattle.outcomes.specs.Outcome as outcome;
 ghost use Rattle.limbs.specs.Inner.{naturalOf, fieldOf, rotationOf, newBitOf};
 ghost use Rattle.limbs.specs.Operations.{isOperand, operand, natural, isField, field, isNewBit, newBit};
+use words::range::within;
 
 pub const MOST_LIMBS: usize = 1024;
 
@@ -46,12 +46,6 @@ pub fn are_operands(x: &[u32], y: &[u32]) -> bool
     ensures { λ r. ⌜ r ≡ isOperand (now (x .entry)) && isOperand (now (y .entry)) ⌝ }
 {
     is_operand(x) && is_operand(y)
-}
-
-fn within(low: i64, x: i64, high: i64) -> bool
-    ensures { λ r. ⌜ r ≡ range.within low x high ⌝ }
-{
-    low <= x && x <= high
 }
 
 fn is_field(start: i64, end: i64) -> bool

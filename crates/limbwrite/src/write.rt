@@ -109,6 +109,15 @@ fn write_field(x: &[u32], start: u64, end: u64, n: usize, part: &mut [u32])
     put_limbs(operation, x, x, x, rest, n, part);
 }
 
+// Each bit of the result, from which operand and which bit of it; for the field from 2 to 8:
+//
+//     result    .. 10  9  8 |  7  6  5  4  3  2 |  1  0
+//     x         .. 10  9  8 |                   |  1  0
+//     y                     |  5  4  3  2  1  0 |
+//                    above       inside           below
+//
+// A limb that lies whole in one of the three pieces is a window of its operand. One that lies across an end of the field is put
+// together bit by bit; in such a limb the field may both begin and end.
 fn write_copy_field(x: &[u32], y: &[u32], start: u64, end: u64, n: usize, part: &mut [u32])
     requires { ⌜ (0 < length (now x)) × (0 < length (now y)) ⌝ }
     requires { ⌜ (start ≤ end) × (end < 2 ^ 32) ⌝ }
@@ -140,7 +149,15 @@ fn write_copy_field(x: &[u32], y: &[u32], start: u64, end: u64, n: usize, part: 
     put_limbs(operation, x, y, x, rest, n, part);
 }
 
-// The upper bits of the field come to its low end, and the others move up.
+// The upper bits of the field come to its low end, and the others move up. Each bit of the result, by the bit of x that it is; for the
+// field from 2 to 8, rotated by 2:
+//
+//     result    .. 10  9  8 |  7  6  5  4 |  3  2 |  1  0
+//     x         .. 10  9  8 |  5  4  3  2 |  7  6 |  1  0
+//                    above       others     upper   below
+//                          end         middle   start
+//
+// Limbs are written as in write_copy_field, from four pieces.
 fn write_rotate(x: &[u32], start: u64, end: u64, by: u64, n: usize, part: &mut [u32])
     requires { ⌜ 0 < length (now x) ⌝ }
     requires { ⌜ (start ≤ end) × (end < 2 ^ 32) ⌝ }
