@@ -50,7 +50,8 @@ fn print_limbs(x: &mut [u32]) {
     print(b"\n");
 }
 
-fn call(index: u64, x: &[u32], y: &[u32], z: &[u32], v: [i64; 4], out: &mut [u32]) -> Written
+// The calls that write a result, by families.
+fn call_logical(index: u64, x: &[u32], y: &[u32], z: &[u32], out: &mut [u32]) -> Written
     ensures { λ r. ⌜ r .length ≤ length (now (out .exit)) ⌝ }
 {
     match index {
@@ -58,15 +59,39 @@ fn call(index: u64, x: &[u32], y: &[u32], z: &[u32], v: [i64; 4], out: &mut [u32
         2 => limbs::bitwise_and(x, y, out, 0),
         3 => limbs::bitwise_ior(x, y, out, 0),
         4 => limbs::bitwise_xor(x, y, out, 0),
-        5 => limbs::bitwise_if(x, y, z, out, 0),
+        _ => limbs::bitwise_if(x, y, z, out, 0),
+    }
+}
+
+fn call_shift(index: u64, x: &[u32], distance: i64, out: &mut [u32]) -> Written
+    ensures { λ r. ⌜ r .length ≤ length (now (out .exit)) ⌝ }
+{
+    match index {
+        13 => limbs::bitwise_shift(x, distance, out, 0),
+        14 => limbs::bitwise_shift_left(x, distance, out, 0),
+        _ => limbs::bitwise_shift_right(x, distance, out, 0),
+    }
+}
+
+fn call_field(index: u64, x: &[u32], y: &[u32], v: [i64; 4], out: &mut [u32]) -> Written
+    ensures { λ r. ⌜ r .length ≤ length (now (out .exit)) ⌝ }
+{
+    match index {
         10 => limbs::bitwise_copy_bit(x, v[1], v[2], out, 0),
         11 => limbs::bitwise_bit_field(x, v[1], v[2], out, 0),
         12 => limbs::bitwise_copy_bit_field(x, v[1], v[2], y, out, 0),
-        13 => limbs::bitwise_shift(x, v[1], out, 0),
-        14 => limbs::bitwise_shift_left(x, v[1], out, 0),
-        15 => limbs::bitwise_shift_right(x, v[1], out, 0),
         16 => limbs::bitwise_rotate(x, v[1], v[2], v[3], out, 0),
         _ => limbs::bitwise_reverse(x, v[1], v[2], out, 0),
+    }
+}
+
+fn call(index: u64, x: &[u32], y: &[u32], z: &[u32], v: [i64; 4], out: &mut [u32]) -> Written
+    ensures { λ r. ⌜ r .length ≤ length (now (out .exit)) ⌝ }
+{
+    match index {
+        1..=5 => call_logical(index, x, y, z, out),
+        13..=15 => call_shift(index, x, v[1], out),
+        _ => call_field(index, x, y, v, out),
     }
 }
 
