@@ -84,7 +84,7 @@ fn measure_any(operation: Operation, x: &[u32], y: &[u32], z: &[u32], enough: us
 }
 
 // The same for a logical operation, where both operands have so many limbs.
-pub fn measure_common(by: Logic, x: &[u32], y: &[u32], enough: usize) -> usize
+fn measure_common(by: Logic, x: &[u32], y: &[u32], enough: usize) -> usize
     requires { ⌜ (enough ≤ length (now x)) × (enough ≤ length (now y)) ⌝ }
     requires { ⌜ 0 < enough ⌝ }
     requires { ⌜ bitLength (bitwise (logicOf by) (value (now x)) (value (now y))) < 32 * enough ⌝ }
