@@ -12,7 +12,7 @@
         or the exact result of fx- is not a fixnum
      6  the exact result is not a fixnum, or a shift's result would have more than 1,024 limbs
      7  an operand has no limb, or more than 1,024
-     8  the result is longer than the room in the output buffer
+     8  the result is longer than the capacity of the output buffer
 
    The first that holds is given, in this order: fixnum calls 1, 2, 3, 4, 5, 6; limb calls 7, 5, 6, 8; limbs to fixnum
    1, 7, 6; fixnum to limbs 1, 4, 8. A refused call answers 0 for every result and length, and writes no limb of the
@@ -73,7 +73,7 @@ ql_fixnum_answer ql_fixnum(uint64_t width, uint64_t code, uint64_t count, int64_
    An integer is 1 to 1,024 limbs, least significant first, in two's complement: the top bit of the last limb continues
    for ever. Operands may have more limbs than they need; a result has as few as it can (0 is one limb 0, -1 is one limb
    0xFFFFFFFF). It is written to out[first] and the limbs after it, and `length` is the number of its limbs. Every other
-   limb of the output buffer stays as it was. The room is nout - first, or 0 where first is greater than nout. */
+   limb of the output buffer stays as it was. The capacity is nout - first, or 0 where first is greater than nout. */
 
 /* Each bit of x inverted. */
 ql_written ql_bitwise_not(const uint32_t *x, size_t nx, uint32_t *out, size_t nout, uint64_t first);

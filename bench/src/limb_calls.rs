@@ -1,7 +1,7 @@
 //! The limb calls: ours, GMP's and plain Rust's.
 
 use crate::binding as ours;
-use crate::gmp_calls::{self, Room};
+use crate::gmp_calls::{self, Scratch};
 use crate::inputs::Input;
 use crate::limb_case::{answering, writing, Inputs};
 use crate::plain_limbs as plain;
@@ -23,14 +23,14 @@ pub fn short_results(inputs: &Inputs) -> Vec<Case> {
             "bitwise-xor of x and x",
             inputs,
             |i, out| ours::bitwise_xor(&i.x.limbs, &i.x.limbs, out, 0),
-            Some(|i: &Input, room: &mut Room| room.result.xor(&i.x.gmp, &i.x.gmp)),
+            Some(|i: &Input, scratch: &mut Scratch| scratch.result.xor(&i.x.gmp, &i.x.gmp)),
             |i, out| plain::xor(&i.x.limbs, &i.x.limbs, out),
         ),
         writing(
             "bitwise-and of x and one limb",
             inputs,
             |i, out| ours::bitwise_and(&i.x.limbs, &i.short.limbs, out, 0),
-            Some(|i: &Input, room: &mut Room| room.result.and(&i.x.gmp, &i.short.gmp)),
+            Some(|i: &Input, scratch: &mut Scratch| scratch.result.and(&i.x.gmp, &i.short.gmp)),
             |i, out| plain::and(&i.x.limbs, &i.short.limbs, out),
         ),
     ]
@@ -42,28 +42,28 @@ fn logical(inputs: &Inputs) -> Vec<Case> {
             "bitwise-not",
             inputs,
             |i, out| ours::bitwise_not(&i.x.limbs, out, 0),
-            Some(|i: &Input, room: &mut Room| room.result.com(&i.x.gmp)),
+            Some(|i: &Input, scratch: &mut Scratch| scratch.result.com(&i.x.gmp)),
             |i, out| plain::not(&i.x.limbs, out),
         ),
         writing(
             "bitwise-and",
             inputs,
             |i, out| ours::bitwise_and(&i.x.limbs, &i.y.limbs, out, 0),
-            Some(|i: &Input, room: &mut Room| room.result.and(&i.x.gmp, &i.y.gmp)),
+            Some(|i: &Input, scratch: &mut Scratch| scratch.result.and(&i.x.gmp, &i.y.gmp)),
             |i, out| plain::and(&i.x.limbs, &i.y.limbs, out),
         ),
         writing(
             "bitwise-ior",
             inputs,
             |i, out| ours::bitwise_ior(&i.x.limbs, &i.y.limbs, out, 0),
-            Some(|i: &Input, room: &mut Room| room.result.ior(&i.x.gmp, &i.y.gmp)),
+            Some(|i: &Input, scratch: &mut Scratch| scratch.result.ior(&i.x.gmp, &i.y.gmp)),
             |i, out| plain::ior(&i.x.limbs, &i.y.limbs, out),
         ),
         writing(
             "bitwise-xor",
             inputs,
             |i, out| ours::bitwise_xor(&i.x.limbs, &i.y.limbs, out, 0),
-            Some(|i: &Input, room: &mut Room| room.result.xor(&i.x.gmp, &i.y.gmp)),
+            Some(|i: &Input, scratch: &mut Scratch| scratch.result.xor(&i.x.gmp, &i.y.gmp)),
             |i, out| plain::xor(&i.x.limbs, &i.y.limbs, out),
         ),
         writing(
@@ -110,7 +110,7 @@ fn fields(inputs: &Inputs) -> Vec<Case> {
             "bitwise-reverse-bit-field",
             inputs,
             |i, out| ours::bitwise_reverse(&i.x.limbs, i.start, i.end, out, 0),
-            None::<fn(&Input, &mut Room)>,
+            None::<fn(&Input, &mut Scratch)>,
             |i, out| plain::reverse(&i.x.limbs, i.start as usize, i.end as usize, out),
         ),
     ]
@@ -129,14 +129,14 @@ fn shifts(inputs: &Inputs) -> Vec<Case> {
             "bitwise-arithmetic-shift-left",
             inputs,
             |i, out| ours::bitwise_shift_left(&i.half.limbs, i.distance, out, 0),
-            Some(|i: &Input, room: &mut Room| room.result.mul_2exp(&i.half.gmp, i.distance as u64)),
+            Some(|i: &Input, scratch: &mut Scratch| scratch.result.mul_2exp(&i.half.gmp, i.distance as u64)),
             |i, out| plain::shift_left(&i.half.limbs, i.distance as usize, out),
         ),
         writing(
             "bitwise-arithmetic-shift-right",
             inputs,
             |i, out| ours::bitwise_shift_right(&i.x.limbs, i.distance, out, 0),
-            Some(|i: &Input, room: &mut Room| room.result.fdiv_q_2exp(&i.x.gmp, i.distance as u64)),
+            Some(|i: &Input, scratch: &mut Scratch| scratch.result.fdiv_q_2exp(&i.x.gmp, i.distance as u64)),
             |i, out| plain::shift_right(&i.x.limbs, i.distance as usize, out),
         ),
     ]

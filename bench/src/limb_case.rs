@@ -3,7 +3,7 @@
 use std::rc::Rc;
 
 use crate::binding::{Value, Written};
-use crate::gmp_calls::Room;
+use crate::gmp_calls::Scratch;
 use crate::inputs::Input;
 use crate::plain_limbs::shortest;
 use crate::timing::{require, Case, Side};
@@ -18,23 +18,23 @@ pub fn writing(
     name: &str,
     inputs: &Inputs,
     ours: impl Fn(&Input, &mut [u32]) -> Written + 'static,
-    gmp: Option<impl Fn(&Input, &mut Room) + 'static>,
+    gmp: Option<impl Fn(&Input, &mut Scratch) + 'static>,
     plain: impl Fn(&Input, &mut [u32]) -> usize + 'static,
 ) -> Case {
-    let (mut our_out, mut plain_out, mut room) = (vec![0; OUT], vec![0; OUT], Room::new());
+    let (mut our_out, mut plain_out, mut scratch) = (vec![0; OUT], vec![0; OUT], Scratch::new());
     for input in inputs.iter() {
         let length = ours(input, &mut our_out).result().unwrap_or(0);
         let expected = &our_out[..length];
         let plain_length = plain(input, &mut plain_out);
         require(expected == &plain_out[..plain_length], name, "plain Rust");
         if let Some(gmp) = &gmp {
-            gmp(input, &mut room);
-            let limbs = room.result.to_limbs();
+            gmp(input, &mut scratch);
+            let limbs = scratch.result.to_limbs();
             require(expected == &limbs[..shortest(&limbs)], name, "GMP");
         }
     }
     let ours = Side::new(inputs, move |input| ours(input, &mut our_out));
-    let gmp = gmp.map(|gmp| Side::new(inputs, move |input| gmp(input, &mut room)));
+    let gmp = gmp.map(|gmp| Side::new(inputs, move |input| gmp(input, &mut scratch)));
     let plain = Side::new(inputs, move |input| plain(input, &mut plain_out));
     Case::new(name, ours, gmp, plain)
 }
@@ -44,15 +44,15 @@ pub fn answering(
     name: &str,
     inputs: &Inputs,
     ours: impl Fn(&Input) -> Value + 'static,
-    gmp: impl Fn(&Input, &mut Room) -> i64 + 'static,
+    gmp: impl Fn(&Input, &mut Scratch) -> i64 + 'static,
     plain: impl Fn(&Input) -> i64 + 'static,
 ) -> Case {
-    let mut room = Room::new();
+    let mut scratch = Scratch::new();
     for input in inputs.iter() {
         let expected = ours(input).result().ok();
         require(expected == Some(plain(input)), name, "plain Rust");
-        require(expected == Some(gmp(input, &mut room)), name, "GMP");
+        require(expected == Some(gmp(input, &mut scratch)), name, "GMP");
     }
-    let gmp = Side::new(inputs, move |input| gmp(input, &mut room));
+    let gmp = Side::new(inputs, move |input| gmp(input, &mut scratch));
     Case::new(name, Side::new(inputs, ours), Some(gmp), Side::new(inputs, plain))
 }

@@ -45,7 +45,7 @@ impl<'a> LimbCall<'a> {
         LimbCall { width, ..LimbCall::new(Operation::LimbsToFixnum, &[x], &[]) }
     }
 
-    /// The limbs to write, or the refusal that comes before the room is looked at.
+    /// The limbs to write, or the refusal that comes before the capacity is looked at.
     pub fn result(&self) -> Result<Vec<u32>, u64> {
         match self.operation {
             Operation::FixnumToLimbs => conversion::fixnum_to_limbs(self.width, self.numbers[0]),

@@ -15,5 +15,5 @@ pub const DOMAIN: u64 = 5;
 pub const SIZE: u64 = 6;
 /// An operand has 0 limbs or over 1,024.
 pub const OPERAND: u64 = 7;
-/// The shortest result is longer than the room.
+/// The shortest result is longer than the capacity.
 pub const ROOM: u64 = 8;

@@ -36,6 +36,10 @@ pub lt-two-pow : (k : ℕ) → k < 2 ^ k
 lt-two-pow zero = lit< tt
 lt-two-pow (suc k) = omega (arith, pow-suc 2 k, lt-two-pow k)
 
+pub mag-fits : (w : ℕ) (x : ℤ) → mag x < 2 ^ (w - 1) → fits w x ≡ true
+unfolding fits
+mag-fits w x h = lt-ltb (mag x) (2 ^ (w - 1)) h
+
 -- 2^w is twice 2^(w-1)
 pub double : (w : ℕ) → 0 < w → 2 ^ w ≡ 2 * 2 ^ (w - 1)
 double zero h = absurd (omega arith)

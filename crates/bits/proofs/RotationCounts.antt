@@ -1,5 +1,5 @@
--- The count of a rotation, reduced by the size of the field. Assumes nothing.
-use Prim.Native.Nat.{ℕ, _-_, _%_, _≤_, _<_}
+-- The count of a rotation, reduced by the size of the field, and the net count after one more call. Assumes nothing.
+use Prim.Native.Nat.{ℕ, _+_, _-_, _%_, _≤_, _<_}
 use native.Mathlib.Nat.{mod-lt}
 use native.Mathlib.Omega.{arith}
 use mathlib.Core.Path.{_≡_, refl, sym, ap, _∙_}
@@ -9,6 +9,8 @@ use lib.IntN.{ℤ, pos}
 use borrow.Author.Tests.{eqb-true, eqb-false}
 use Rattle.bits.specs.Division.{modℕ, «mod»}
 use Rattle.bits.specs.Field.{rotateBitField}
+use Rattle.bits.specs.FieldList.{rotate, reverse, countCall}
+use Rattle.bits.proofs.IntegerLaws.{pos-sub-ge}
 use Rattle.bits.proofs.RotateLaws.{rotate-empty, rotate-mod}
 
 pub reduced-le : {r : ℕ} (count size : ℕ) → r ≡ cond (eqb size 0) 0 (count % size) → r ≤ size
@@ -31,3 +33,13 @@ rotate-reduced {r} x start end count e = go (eqb (end - start) 0) refl e
         let h : end ≤ start = omega (arith, eqb-true (end - start) 0 q) in
         rotate-empty start end x (pos count) h ∙ sym (rotate-empty start end x (pos r) h)
     go false q f = sym (ap (λ (n : ℕ). rotateBitField x start end (pos n)) f ∙ rotate-by-mod x start end count)
+
+-- ---- net counts, of natural numbers
+
+pub countCall-rotate : (size net count : ℕ) → countCall size (rotate (pos count)) (pos net) ≡ pos ((net + count) % size)
+unfolding countCall «mod» modℕ
+countCall-rotate size net count = refl
+
+pub countCall-reverse : (size net : ℕ) → net ≤ size → countCall size reverse (pos net) ≡ pos ((size - net) % size)
+unfolding countCall «mod» modℕ
+countCall-reverse size net h = ap (λ (z : ℤ). pos (modℕ z size)) (pos-sub-ge size net h)

@@ -143,6 +143,15 @@ unfolding testbit isNegative odd
 testbit-mag-lt (pos n) i h = ap odd (div-eq-of-lt h)
 testbit-mag-lt (negsuc n) i h = ap (λ (m : ℕ). not (odd m)) (div-eq-of-lt h)
 
+-- a natural number: its binary digits, and none of them beyond its size
+pub testbit-digit : (n i : ℕ) → testbit (pos n) i ≡ eqb (n / 2 ^ i % 2) 1
+unfolding testbit odd
+testbit-digit n i = refl
+
+pub testbit-small : (n k i : ℕ) → n < 2 ^ k → k ≤ i → testbit (pos n) i ≡ false
+unfolding isNegative
+testbit-small n k i h l = testbit-mag-lt (pos n) i (lt-of-lt-of-le h (pow-mono l))
+
 pub testbit-above : (x : ℤ) (i : ℕ) → bitLength x ≤ i → testbit x i ≡ isNegative x
 testbit-above x i h = testbit-mag-lt x i (lt-of-lt-of-le (mag-lt-bitLength x) (pow-mono h))
 

@@ -8,21 +8,23 @@ use Rattle.bits.specs.Division.{div, modℕ, «mod», div0, mod0}
 use Rattle.bits.specs.Field.{inField, setField, permuteField, rotateIndex, reverseIndex, rotateBitField, reverseBitField, copyBitField, copyBit}
 use Rattle.bits.specs.Count.{onesBelow, ones, bitCount, firstTrue, firstBitSet}
 use Rattle.bits.specs.Range.{within}
-use Rattle.fixnum.specs.Answers as answers
-use Rattle.fixnum.specs.Domains.{leastWidth, largestWidth, isWidth, arg, accepts, inDomainsFrom, inDomains}
-use Rattle.fixnum.specs.Operations.{every, one, two, three, four, minus, carry, copyBitAt}
-use Rattle.fixnum.specs.Table.{rows, isCode, rowOf}
-use Rattle.fixnum.specs.Calls as calls
+use Rattle.fxtable.specs.Answers.{answer}
+use Rattle.fxtable.specs.Domains.{leastWidth, largestWidth, isWidth, arg, accepts, inDomainsFrom, inDomains}
+use Rattle.fxtable.specs.Operations.{resultsOf, minus, partsOf}
+use Rattle.fxtable.specs.Table.{rows, isCode, rowOf}
+use Rattle.fxtable.specs.Calls as calls
 use Rattle.limbwords.specs.Value.{onTop, value, limbsOf, limbCount, shortest}
-use Rattle.limbs.specs.Buffer.{unless, room, laid, fitsIn, written, afterwards, number}
-use Rattle.limbs.specs.Operations.{mostLimbs, isOperand, operand, field, sized, notOutcome, bitwiseOutcome, shiftOutcome, rotateOutcome, reverseOutcome, bitCountOutcome, lengthOutcome, firstBitSetOutcome}
+use Rattle.outcomes.specs.Outcome.{guard, guardAt, mapDone, refusalOf}
+use Rattle.outcomes.specs.Buffer.{capacity, laid, fitted, afterwards, countOf}
+use Rattle.limbs.specs.Buffer.{stored, written, number}
+use Rattle.limbs.specs.Operations.{mostLimbs, isOperand, operand, natural, isField, field, sized, notOutcome, bitwiseOutcome, shiftOutcome, rotateOutcome, reverseOutcome, bitCountOutcome, lengthOutcome, firstBitSetOutcome}
 use Rattle.cases.specs.Table.{given, stated, table}
 
 pub cases-M : map given table ≡ map stated table
 unfolding odd testbit halvings bitLength consBit ofBits fits isNegative fill bitwiseNot bitwise floorDiv shiftLeft shiftRight arithmeticShift div modℕ «mod» div0 mod0
     inField setField permuteField rotateIndex reverseIndex rotateBitField reverseBitField copyBitField copyBit onesBelow ones bitCount firstTrue firstBitSet
-    answers.done answers.refuse answers.unless leastWidth largestWidth isWidth arg within accepts inDomainsFrom inDomains every one two three four minus carry copyBitAt
-    rows isCode rowOf calls.counted calls.isCount calls.allFixnums calls.sized calls.outcome calls.fixnumAnswer
-    onTop value limbsOf limbCount shortest unless room laid fitsIn written afterwards number mostLimbs isOperand operand field sized
+    answer resultsOf leastWidth largestWidth isWidth arg within accepts inDomainsFrom inDomains minus partsOf
+    rows isCode rowOf calls.counted calls.isCount calls.allFixnums calls.checked calls.outcome calls.fixnumAnswer
+    onTop value limbsOf limbCount shortest guard guardAt mapDone refusalOf capacity laid fitted afterwards countOf stored written number mostLimbs isOperand operand natural isField field sized
     notOutcome bitwiseOutcome shiftOutcome rotateOutcome reverseOutcome bitCountOutcome lengthOutcome firstBitSetOutcome given stated table
 cases-M = refl

@@ -10,19 +10,20 @@ use mathlib.Core.Bool.{_&&_}
 use mathlib.Core.List.{List, [], _∷_, _++_}
 use lib.IntN.{ℤ, pos, negℤ}
 use lib.ListN.{length, drop}
-use Rattle.fixnum.specs.declared.Answer.{Answer}
-use Rattle.fixnum.specs.Answers.{done, refuse}
-use Rattle.fixnum.specs.Calls.{fixnumAnswer}
+use Rattle.fxtable.specs.declared.answer.Answer.{Answer}
+use Rattle.fxtable.specs.Calls.{fixnumAnswer}
 use Rattle.limbs.specs.declared.Written.{Written}
 use Rattle.limbs.specs.declared.Number.{Number}
-use Rattle.limbs.specs.Buffer.{Outcome, written, afterwards, number}
+use Rattle.outcomes.specs.Outcome.{Outcome}
+use Rattle.outcomes.specs.Buffer.{afterwards}
+use Rattle.limbs.specs.Buffer.{stored, written, number}
 use Rattle.limbs.specs.Operations.{notOutcome, bitwiseOutcome, shiftOutcome, rotateOutcome, reverseOutcome, bitCountOutcome, lengthOutcome, firstBitSetOutcome}
 
 -- fixnum: width, code, all arguments, answer; writes: a limb call, the limbs of its result; counts: a limb call, the number that it answers
 pub data Row : Type 0 where
   fixnum : ℕ → ℕ → List ℤ → Answer → Row
-  writes : Outcome → List ℕ → Row
-  counts : Outcome → ℤ → Row
+  writes : Outcome ℤ → List ℕ → Row
+  counts : Outcome ℤ → ℤ → Row
 
 pub data Reply : Type 0 where
   answered : Answer → Reply
@@ -35,7 +36,7 @@ sevens = 7 ∷ 7 ∷ 7 ∷ []
 
 unfoldable pub given : Row → Reply
 given (fixnum w code xs answer) = answered (fixnumAnswer w code xs (length xs))
-given (writes outcome xs) = wrote (written outcome (7 ∷ sevens) 1) (afterwards outcome (7 ∷ sevens) 1)
+given (writes outcome xs) = wrote (written outcome (7 ∷ sevens) 1) (afterwards (stored outcome (7 ∷ sevens) 1) (7 ∷ sevens) 1)
 given (counts outcome n) = counted (number outcome)
 
 -- The limbs before a result and after it stay the same.
@@ -47,9 +48,15 @@ stated (counts outcome n) = counted (record { refusal = 0; value = n })
 abbrev minus : ℕ → ℤ
 minus n = negℤ (pos n)
 
+abbrev results : ℤ → ℤ → Answer
+results a b = record { refusal = 0; first = a; second = b }
+
 -- an operation with one result has 0 as the second
 abbrev result : ℤ → Answer
-result n = done n (pos 0)
+result n = results n (pos 0)
+
+abbrev refused : ℕ → Answer
+refused k = record { refusal = k; first = pos 0; second = pos 0 }
 
 -- On limbs -n is the limb 2^32 - n.
 unfoldable pub table : List Row
@@ -79,11 +86,11 @@ table =
     ∷ counts (lengthOutcome (0xFFFFFF00 ∷ [])) (pos 8)
     ∷ counts (lengthOutcome (0xFFFFFEFF ∷ [])) (pos 9)
     -- M7 fx- of -8,388,608
-    ∷ fixnum 24 15 (minus 8388608 ∷ []) (refuse 5)
+    ∷ fixnum 24 15 (minus 8388608 ∷ []) (refused 5)
     -- M8 +/carry 8,388,607, 1, 0
-    ∷ fixnum 24 22 (pos 8388607 ∷ pos 1 ∷ pos 0 ∷ []) (done (minus 8388608) (pos 1))
+    ∷ fixnum 24 22 (pos 8388607 ∷ pos 1 ∷ pos 0 ∷ []) (results (minus 8388608) (pos 1))
     -- M9 */carry 8,388,607 three times
-    ∷ fixnum 24 24 (pos 8388607 ∷ pos 8388607 ∷ pos 8388607 ∷ []) (done (minus 8388608) (pos 4194304))
+    ∷ fixnum 24 24 (pos 8388607 ∷ pos 8388607 ∷ pos 8388607 ∷ []) (results (minus 8388608) (pos 4194304))
     -- M10 -7 by 2: div, mod; div0, mod0
     ∷ fixnum 24 16 (minus 7 ∷ pos 2 ∷ []) (result (minus 4))
     ∷ fixnum 24 17 (minus 7 ∷ pos 2 ∷ []) (result (pos 1))
@@ -92,7 +99,7 @@ table =
     -- M11 copy-bit 0, 23, 1
     ∷ fixnum 24 34 (pos 0 ∷ pos 23 ∷ pos 1 ∷ []) (result (minus 8388608))
     -- M12 -8,388,608 by -1: div; mod
-    ∷ fixnum 24 16 (minus 8388608 ∷ minus 1 ∷ []) (refuse 6)
+    ∷ fixnum 24 16 (minus 8388608 ∷ minus 1 ∷ []) (refused 6)
     ∷ fixnum 24 17 (minus 8388608 ∷ minus 1 ∷ []) (result (pos 0))
     -- M13 not of limbs 0x80000000, 0
     ∷ writes (notOutcome (0x80000000 ∷ 0 ∷ [])) (0x7FFFFFFF ∷ 0xFFFFFFFF ∷ [])

@@ -11,19 +11,20 @@ use mir.Val.{toZ, ofZ}
 use borrow.Author.Tests.{lt-ltb, not-true, not-false}
 use Rattle.bits.specs.Testbit.{fits}
 use Rattle.words.proofs.WordLaws.{back-word, fits-mag}
-use Rattle.fixnum.specs.Domains.{isWidth}
-use Rattle.fixnum.proofs.CallLaws.{fits-word}
+use Rattle.fxtable.specs.Domains.{isWidth}
+use Rattle.fxtable.proofs.CallLaws.{fits-word}
 use Rattle.limbwords.specs.Value.{value}
 use Rattle.limbs.specs.declared.Number.{Number}
-use Rattle.limbs.specs.Buffer.{Outcome, refused, integer, unless, number}
+use Rattle.outcomes.specs.Outcome.{Outcome, refused, done, refuse, guard, guardAt}
+use Rattle.outcomes.proofs.OutcomeLaws.{passed, failed}
+use Rattle.limbs.specs.Buffer.{number}
 use Rattle.limbs.specs.Operations.{isOperand, operand, wordOutcome}
-use Rattle.limbs.proofs.OutcomeLaws.{passed, failed}
 use Rattle.convert.specs.Convert.{toFixnumOutcome}
 
 -- what the outcome for a word becomes at a width
-narrowed : ℕ → Outcome → Outcome
-narrowed w (refused k) = refused k
-narrowed w (integer z) = unless (fits w z) 6 (integer z)
+narrowed : ℕ → Outcome ℤ → Outcome ℤ
+narrowed w (refused k detail) = refused k detail
+narrowed w (done z) = guard (fits w z) 6 (done z)
 
 -- an integer that fits no word is no fixnum
 no-fixnum : (w : ℕ) (z : ℤ) → isWidth w ≡ true → fits 64 z ≡ false → fits w z ≡ false
@@ -34,37 +35,37 @@ no-fixnum w z a e = go (fits w z) refl
     go false h = h
 
 from-word : (w : ℕ) (x : List ℕ) → isWidth w ≡ true → toFixnumOutcome w x ≡ narrowed w (wordOutcome x)
-unfolding toFixnumOutcome wordOutcome operand unless narrowed
-from-word w x a = passed (isWidth w) 1 _ a ∙ go (isOperand x) (fits 64 (value x)) refl
+unfolding toFixnumOutcome wordOutcome operand guard guardAt narrowed
+from-word w x a = passed 1 _ a ∙ go (isOperand x) (fits 64 (value x)) refl
   where
     go : (l b : Bool) → fits 64 (value x) ≡ b
-        → cond l (unless (fits w (value x)) 6 (integer (value x))) (refused 7) ≡ narrowed w (cond l (cond b (integer (value x)) (refused 6)) (refused 7))
+        → cond l (guard (fits w (value x)) 6 (done (value x))) (refuse 7) ≡ narrowed w (cond l (cond b (done (value x)) (refuse 6)) (refuse 7))
     go true true e = refl
-    go true false e = failed (fits w (value x)) 6 (integer (value x)) (no-fixnum w (value x) a e)
+    go true false e = failed 6 (done (value x)) (no-fixnum w (value x) a e)
     go false b e = refl
 
 -- an answer with the outcome o, by its refusal number and its value
-refused-narrowed : (w : ℕ) (o : Outcome) → (number o .refusal ≡ 0 → ⊥) → number o ≡ number (narrowed w o)
+refused-narrowed : (w : ℕ) (o : Outcome ℤ) → (number o .refusal ≡ 0 → ⊥) → number o ≡ number (narrowed w o)
 unfolding number narrowed
-refused-narrowed w (refused k) h = refl
-refused-narrowed w (integer z) h = absurd (h refl)
+refused-narrowed w (refused k detail) h = refl
+refused-narrowed w (done z) h = absurd (h refl)
 
-small-narrowed : (w : ℕ) (o : Outcome) → fits w (number o .value) ≡ true → number o ≡ number (narrowed w o)
+small-narrowed : (w : ℕ) (o : Outcome ℤ) → fits w (number o .value) ≡ true → number o ≡ number (narrowed w o)
 unfolding number narrowed
-small-narrowed w (refused k) h = refl
-small-narrowed w (integer z) h = sym (ap number (passed (fits w z) 6 (integer z) h))
+small-narrowed w (refused k detail) h = refl
+small-narrowed w (done z) h = sym (ap number (passed 6 (done z) h))
 
 -- the value of a refused answer is 0, which fits
-large-narrowed : (w : ℕ) (o : Outcome) → fits w (number o .value) ≡ false → narrowed w o ≡ refused 6
+large-narrowed : (w : ℕ) (o : Outcome ℤ) → fits w (number o .value) ≡ false → narrowed w o ≡ refuse 6
 unfolding number narrowed fits
-large-narrowed w (refused k) h = absurd (true≢false (sym (lt-ltb 0 (2 ^ (w - 1)) (pow-pos (w - 1))) ∙ h))
-large-narrowed w (integer z) h = failed (fits w z) 6 (integer z) h
+large-narrowed w (refused k detail) h = absurd (true≢false (sym (lt-ltb 0 (2 ^ (w - 1)) (pow-pos (w - 1))) ∙ h))
+large-narrowed w (done z) h = failed 6 (done z) h
 
 word-bound : (x : List ℕ) → mag (number (wordOutcome x) .value) < 2 ^ 63
-unfolding wordOutcome operand unless number
+unfolding wordOutcome operand guard guardAt number
 word-bound x = go (isOperand x) (fits 64 (value x)) refl
   where
-    go : (l b : Bool) → fits 64 (value x) ≡ b → mag (number (cond l (cond b (integer (value x)) (refused 6)) (refused 7)) .value) < 2 ^ 63
+    go : (l b : Bool) → fits 64 (value x) ≡ b → mag (number (cond l (cond b (done (value x)) (refuse 6)) (refuse 7)) .value) < 2 ^ 63
     go true true e = fits-mag 64 (value x) e
     go true false e = pow-pos 63
     go false b e = pow-pos 63
@@ -79,7 +80,7 @@ module _ (w : ℕ) (x : List ℕ) (a : isWidth w ≡ true) {r : Number} (e : r �
   tested = ap (λ (n : Number). fits w (toZ w64 (ofZ w64 (n .value)))) e ∙ ap (fits w) (back-word (number (wordOutcome x) .value) (word-bound x))
 
   module _ {t : Bool} (f : t ≡ fits w (toZ w64 (ofZ w64 (r .value)))) where
-    pub large-word : {r′ : Number} → not t ≡ true → r′ ≡ number (refused 6) → r′ ≡ number (toFixnumOutcome w x)
+    pub large-word : {r′ : Number} → not t ≡ true → r′ ≡ number (refuse 6) → r′ ≡ number (toFixnumOutcome w x)
     large-word h q = q ∙ sym (ap number (from-word w x a ∙ large-narrowed w (wordOutcome x) (sym (f ∙ tested) ∙ not-true t h)))
 
     pub small-word : not t ≡ false → r ≡ number (toFixnumOutcome w x)

@@ -7,17 +7,17 @@ use mathlib.Core.List.{List}
 use lib.IntN.{ℤ}
 use lib.ListN.{take, drop}
 use Rattle.bits.specs.Testbit.{fits}
-use Rattle.fixnum.specs.Domains.{isWidth}
+use Rattle.fxtable.specs.Domains.{isWidth}
 use Rattle.limbwords.specs.Value.{value}
 use Rattle.limbs.specs.declared.Written.{Written}
-use Rattle.limbs.specs.Buffer.{Outcome, integer, unless}
+use Rattle.outcomes.specs.Outcome.{Outcome, done, guard}
 use Rattle.limbs.specs.Operations.{operand}
 
-unfoldable pub toFixnumOutcome : ℕ → List ℕ → Outcome
-toFixnumOutcome w x = unless (isWidth w) 1 (operand x (unless (fits w (value x)) 6 (integer (value x))))
+unfoldable pub toFixnumOutcome : ℕ → List ℕ → Outcome ℤ
+toFixnumOutcome w x = guard (isWidth w) 1 (operand x (guard (fits w (value x)) 6 (done (value x))))
 
-unfoldable pub toLimbsOutcome : ℕ → ℤ → Outcome
-toLimbsOutcome w n = unless (isWidth w) 1 (unless (fits w n) 4 (integer n))
+unfoldable pub toLimbsOutcome : ℕ → ℤ → Outcome ℤ
+toLimbsOutcome w n = guard (isWidth w) 1 (guard (fits w n) 4 (done n))
 
 unfoldable pub copied : Written → ℕ → List ℕ → List ℕ
 copied r first out = take (r .length) (drop first out)

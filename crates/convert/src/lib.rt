@@ -3,7 +3,7 @@
 ghost use mathlib.Core.Path.{_≡_};
 ghost use Rattle.limbs.specs.Buffer.{Writes, number};
 ghost use Rattle.convert.specs.Convert.{toFixnumOutcome, toLimbsOutcome};
-use fixnum::width::is_width;
+use fxtable::width::is_width;
 use limbs::Number;
 use limbs::Written;
 use limbs::answer::refuse;

@@ -1,9 +1,6 @@
-pub mod BufferLaws
-pub mod SegmentLaws
-pub mod OutcomeLaws
 pub mod StageLaws
-pub mod ShiftCalls
+pub mod WritesLaws
 pub mod NumberLaws
-pub mod WrittenLaws
-pub mod Demand3
+pub mod LengthLaws
+pub mod ShiftLaws
 pub mod Cases

@@ -1,51 +1,39 @@
--- The stages of a call that answers a number: an operand that is legal or not, a position, and what fits one word. Assumes nothing.
+-- Calls that answer a number: an operand that is legal or not, a position, and what fits one word. Assumes nothing.
 use Prim.Native.Nat.{ℕ, _%_, _≤_, _<_}
 use native.Mathlib.Nat.{add-zero}
 use native.Mathlib.Omega.{arith}
 use mathlib.Core.Path.{_≡_, refl, sym, ap, _∙_, subst}
 use mathlib.Core.Bool.{Bool, true, false, cond, not}
 use mathlib.Core.List.{List}
-use lib.Dec.{T, leb, lit<}
+use lib.Dec.{T, lit<}
 use lib.IntN.{ℤ, pos}
-use lib.ListN.{length}
-use borrow.Author.Tests.{not-true, not-false, leb-true}
 use Rattle.bits.specs.Testbit.{testbit, bitLength, fits}
-use Rattle.bits.proofs.Booleans.{both-right}
 use Rattle.bits.proofs.LengthLaws.{fits-length}
 use Rattle.bits.proofs.FitsLaws.{is-true}
 use Rattle.words.proofs.Digitwise.{digit-testbit}
-use Rattle.limbs.specs.declared.Number.{Number}
+use Rattle.outcomes.specs.Outcome.{Outcome, done, refuse}
 use Rattle.limbwords.specs.Value.{bitsFrom}
-use Rattle.limbs.specs.Buffer.{Outcome, refused, integer, number}
-use Rattle.limbs.specs.Operations.{mostLimbs, isOperand, operand}
 use Rattle.limbwords.proofs.LimbLaws.{testbit-bitsFrom}
-use Rattle.limbs.proofs.OutcomeLaws.{operand-passed, operand-failed, operand-length}
+use Rattle.limbs.specs.declared.Number.{Number}
+use Rattle.limbs.specs.Buffer.{number}
+use Rattle.limbs.specs.Operations.{isOperand, operand}
+use Rattle.limbs.proofs.StageLaws.{illegal, operand-passed, operand-failed}
 
--- ---- the operand
+-- an answer of the outcome's
+pub number-as : {o p : Outcome ℤ} {r : Number} → o ≡ p → r ≡ number p → r ≡ number o
+number-as e q = q ∙ sym (ap number e)
 
--- where the code's test has found no operand
-pub refused-operand : (xs : List ℕ) (o : Outcome) {t : Bool} {r : Number} → t ≡ isOperand xs → not t ≡ true → r ≡ number (refused 7) → r ≡ number (operand xs o)
-refused-operand xs o {t} e n q = q ∙ sym (ap number (operand-failed xs o (sym e ∙ not-true t n)))
+-- ---- the code's test of an operand
 
--- where it has found one
-module _ (xs : List ℕ) {t : Bool} (e : t ≡ isOperand xs) (n : not t ≡ false) where
-  legal : isOperand xs ≡ true
-  legal = sym e ∙ not-false t n
+pub refused-operand : (xs : List ℕ) (o : Outcome ℤ) {t : Bool} {r : Number} → t ≡ isOperand xs → not t ≡ true → r ≡ number (refuse 7) → r ≡ number (operand xs o)
+refused-operand xs o {t} e n q = number-as (operand-failed xs o (illegal e n)) q
 
-  pub operand-lengths : (0 < length xs) × (length xs ≤ 1024)
-  unfolding isOperand mostLimbs
-  operand-lengths = (operand-length xs legal, leb-true (length xs) 1024 (both-right (leb 1 (length xs)) (leb (length xs) 1024) legal))
+-- what comes after the test: a refusal, or the number v that the call has found
+pub later : (xs : List ℕ) {o p : Outcome ℤ} {r : Number} → isOperand xs ≡ true → o ≡ p → r ≡ number p → r ≡ number (operand xs o)
+later xs {o} l f q = number-as (operand-passed xs o l ∙ f) q
 
-  as-outcome : {o p : Outcome} {r : Number} → o ≡ p → r ≡ number p → r ≡ number (operand xs o)
-  as-outcome {o} f q = q ∙ sym (ap number (operand-passed xs o legal ∙ f))
-
-  -- a later refusal
-  pub refused-number : {o : Outcome} {k : ℕ} {r : Number} → o ≡ refused k → r ≡ number (refused k) → r ≡ number (operand xs o)
-  refused-number = as-outcome
-
-  -- an integer, which the call has as v
-  pub answered : {o : Outcome} {v z : ℤ} {r : Number} → o ≡ integer z → r ≡ number (integer v) → v ≡ z → r ≡ number (operand xs o)
-  answered f q e = as-outcome f (q ∙ ap (λ (v : ℤ). number (integer v)) e)
+pub answered : (xs : List ℕ) {o : Outcome ℤ} {v z : ℤ} {r : Number} → isOperand xs ≡ true → o ≡ done z → r ≡ number (done v) → v ≡ z → r ≡ number (operand xs o)
+answered xs l f q e = later xs l f (q ∙ ap (λ (v : ℤ). number (done v)) e)
 
 -- the lowest bit of 32 bits from a position on
 pub bit-from : (z : ℤ) (at r : ℕ) → r ≡ bitsFrom z at → pos (r % 2) ≡ cond (testbit z at) (pos 1) (pos 0)

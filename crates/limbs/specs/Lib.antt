@@ -1,4 +1,3 @@
 pub mod Buffer
 pub mod Inner
 pub mod Operations
-pub mod Lists

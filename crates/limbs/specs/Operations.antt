@@ -2,7 +2,11 @@
 --   mostLimbs                ==  1,024
 --   isOperand xs             ==  whether xs has 1 to 1,024 limbs
 --   operand xs o             ==  o, or refusal 7 where xs is no operand
---   field start end o        ==  o, or refusal 5 unless 0 <= start <= end <= 32,767
+--   natural n o              ==  o, or refusal 5 where n is negative: a distance, a rotation's count, a position of bit-set?
+--   isField start end        ==  whether 0 <= start <= end <= 32,767
+--   field start end o        ==  o, or refusal 5 where they are no field
+--   isNewBit k bit           ==  whether 0 <= k <= 32,766, and the bit is 0 or 1
+--   newBit k bit o           ==  o, or refusal 5 where copy-bit cannot take them
 --   sized z                  ==  z, or refusal 6 where it has more than 1,024 limbs
 use Prim.Native.Nat.{ℕ}
 use mathlib.Core.Bool.{Bool, _&&_, cond}
@@ -17,7 +21,7 @@ use Rattle.bits.specs.Count.{bitCount, firstBitSet}
 use Rattle.bits.specs.Shift.{arithmeticShift, shiftLeft, shiftRight}
 use Rattle.bits.specs.Field.{copyBit, bitField, copyBitField, rotateBitField, reverseBitField}
 use Rattle.limbwords.specs.Value.{value, limbCount}
-use Rattle.limbs.specs.Buffer.{Outcome, integer, unless}
+use Rattle.outcomes.specs.Outcome.{Outcome, done, guard}
 use Rattle.bits.specs.Range.{within}
 
 unfoldable pub mostLimbs : ℕ
@@ -26,73 +30,86 @@ mostLimbs = 1024
 unfoldable pub isOperand : List ℕ → Bool
 isOperand xs = leb 1 (length xs) && leb (length xs) mostLimbs
 
-unfoldable pub operand : List ℕ → Outcome → Outcome
-operand xs outcome = unless (isOperand xs) 7 outcome
+module _ {A : Type 0} where
+  unfoldable pub operand : List ℕ → Outcome A → Outcome A
+  operand xs o = guard (isOperand xs) 7 o
 
-unfoldable pub field : ℤ → ℤ → Outcome → Outcome
-field start end outcome = unless (within (pos 0) start end) 5 (unless (leZ end (pos 32767)) 5 outcome)
+  unfoldable pub natural : ℤ → Outcome A → Outcome A
+  natural n o = guard (leZ (pos 0) n) 5 o
 
-unfoldable pub sized : ℤ → Outcome
-sized z = unless (leb (limbCount z) mostLimbs) 6 (integer z)
+unfoldable pub isField : ℤ → ℤ → Bool
+isField start end = within (pos 0) start end && leZ end (pos 32767)
+
+unfoldable pub isNewBit : ℤ → ℤ → Bool
+isNewBit k bit = within (pos 0) k (pos 32766) && within (pos 0) bit (pos 1)
+
+module _ {A : Type 0} where
+  unfoldable pub field : ℤ → ℤ → Outcome A → Outcome A
+  field start end o = guard (isField start end) 5 o
+
+  unfoldable pub newBit : ℤ → ℤ → Outcome A → Outcome A
+  newBit k bit o = guard (isNewBit k bit) 5 o
+
+unfoldable pub sized : ℤ → Outcome ℤ
+sized z = guard (leb (limbCount z) mostLimbs) 6 (done z)
 
 -- bitwise-not
-unfoldable pub notOutcome : List ℕ → Outcome
-notOutcome x = operand x (integer (bitwiseNot (value x)))
+unfoldable pub notOutcome : List ℕ → Outcome ℤ
+notOutcome x = operand x (done (bitwiseNot (value x)))
 
 -- bitwise-and, bitwise-ior, bitwise-xor of two, by the Boolean operation
-unfoldable pub bitwiseOutcome : (Bool → Bool → Bool) → List ℕ → List ℕ → Outcome
-bitwiseOutcome op x y = operand x (operand y (integer (bitwise op (value x) (value y))))
+unfoldable pub bitwiseOutcome : (Bool → Bool → Bool) → List ℕ → List ℕ → Outcome ℤ
+bitwiseOutcome op x y = operand x (operand y (done (bitwise op (value x) (value y))))
 
 -- bitwise-if
-unfoldable pub ifOutcome : List ℕ → List ℕ → List ℕ → Outcome
-ifOutcome x y z = operand x (operand y (operand z (integer (bitwiseIf (value x) (value y) (value z)))))
+unfoldable pub ifOutcome : List ℕ → List ℕ → List ℕ → Outcome ℤ
+ifOutcome x y z = operand x (operand y (operand z (done (bitwiseIf (value x) (value y) (value z)))))
 
 -- bitwise-copy-bit
-unfoldable pub copyBitOutcome : List ℕ → ℤ → ℤ → Outcome
-copyBitOutcome x k bit =
-    operand x (unless (within (pos 0) k (pos 32766)) 5 (unless (within (pos 0) bit (pos 1)) 5 (integer (copyBit (value x) (natAbs k) bit))))
+unfoldable pub copyBitOutcome : List ℕ → ℤ → ℤ → Outcome ℤ
+copyBitOutcome x k bit = operand x (newBit k bit (done (copyBit (value x) (natAbs k) bit)))
 
 -- bitwise-bit-field
-unfoldable pub bitFieldOutcome : List ℕ → ℤ → ℤ → Outcome
-bitFieldOutcome x start end = operand x (field start end (integer (bitField (value x) (natAbs start) (natAbs end))))
+unfoldable pub bitFieldOutcome : List ℕ → ℤ → ℤ → Outcome ℤ
+bitFieldOutcome x start end = operand x (field start end (done (bitField (value x) (natAbs start) (natAbs end))))
 
 -- bitwise-copy-bit-field
-unfoldable pub copyBitFieldOutcome : List ℕ → ℤ → ℤ → List ℕ → Outcome
+unfoldable pub copyBitFieldOutcome : List ℕ → ℤ → ℤ → List ℕ → Outcome ℤ
 copyBitFieldOutcome x start end y =
-    operand x (operand y (field start end (integer (copyBitField (value x) (natAbs start) (natAbs end) (value y)))))
+    operand x (operand y (field start end (done (copyBitField (value x) (natAbs start) (natAbs end) (value y)))))
 
 -- bitwise-arithmetic-shift, -left, -right
-unfoldable pub shiftOutcome : List ℕ → ℤ → Outcome
+unfoldable pub shiftOutcome : List ℕ → ℤ → Outcome ℤ
 shiftOutcome x d = operand x (sized (arithmeticShift (value x) d))
 
-unfoldable pub shiftLeftOutcome : List ℕ → ℤ → Outcome
-shiftLeftOutcome x d = operand x (unless (leZ (pos 0) d) 5 (sized (shiftLeft (value x) (natAbs d))))
+unfoldable pub shiftLeftOutcome : List ℕ → ℤ → Outcome ℤ
+shiftLeftOutcome x d = operand x (natural d (sized (shiftLeft (value x) (natAbs d))))
 
-unfoldable pub shiftRightOutcome : List ℕ → ℤ → Outcome
-shiftRightOutcome x d = operand x (unless (leZ (pos 0) d) 5 (integer (shiftRight (value x) (natAbs d))))
+unfoldable pub shiftRightOutcome : List ℕ → ℤ → Outcome ℤ
+shiftRightOutcome x d = operand x (natural d (done (shiftRight (value x) (natAbs d))))
 
 -- bitwise-rotate-bit-field: the rotation reduces its count by the size of the field
-unfoldable pub rotateOutcome : List ℕ → ℤ → ℤ → ℤ → Outcome
+unfoldable pub rotateOutcome : List ℕ → ℤ → ℤ → ℤ → Outcome ℤ
 rotateOutcome x start end c =
-    operand x (field start end (unless (leZ (pos 0) c) 5 (integer (rotateBitField (value x) (natAbs start) (natAbs end) c))))
+    operand x (field start end (natural c (done (rotateBitField (value x) (natAbs start) (natAbs end) c))))
 
 -- bitwise-reverse-bit-field
-unfoldable pub reverseOutcome : List ℕ → ℤ → ℤ → Outcome
-reverseOutcome x start end = operand x (field start end (integer (reverseBitField (value x) (natAbs start) (natAbs end))))
+unfoldable pub reverseOutcome : List ℕ → ℤ → ℤ → Outcome ℤ
+reverseOutcome x start end = operand x (field start end (done (reverseBitField (value x) (natAbs start) (natAbs end))))
 
 -- bitwise-bit-count, bitwise-length, bitwise-first-bit-set, bitwise-bit-set?
-unfoldable pub bitCountOutcome : List ℕ → Outcome
-bitCountOutcome x = operand x (integer (bitCount (value x)))
+unfoldable pub bitCountOutcome : List ℕ → Outcome ℤ
+bitCountOutcome x = operand x (done (bitCount (value x)))
 
-unfoldable pub lengthOutcome : List ℕ → Outcome
-lengthOutcome x = operand x (integer (pos (bitLength (value x))))
+unfoldable pub lengthOutcome : List ℕ → Outcome ℤ
+lengthOutcome x = operand x (done (pos (bitLength (value x))))
 
-unfoldable pub firstBitSetOutcome : List ℕ → Outcome
-firstBitSetOutcome x = operand x (integer (firstBitSet (value x)))
+unfoldable pub firstBitSetOutcome : List ℕ → Outcome ℤ
+firstBitSetOutcome x = operand x (done (firstBitSet (value x)))
 
-unfoldable pub bitSetOutcome : List ℕ → ℤ → Outcome
-bitSetOutcome x k = operand x (unless (leZ (pos 0) k) 5 (integer (cond (testbit (value x) (natAbs k)) (pos 1) (pos 0))))
+unfoldable pub bitSetOutcome : List ℕ → ℤ → Outcome ℤ
+bitSetOutcome x k = operand x (natural k (done (cond (testbit (value x) (natAbs k)) (pos 1) (pos 0))))
 
 -- the integer as one signed 64-bit word
-unfoldable pub wordOutcome : List ℕ → Outcome
-wordOutcome x = operand x (unless (fits 64 (value x)) 6 (integer (value x)))
+unfoldable pub wordOutcome : List ℕ → Outcome ℤ
+wordOutcome x = operand x (guard (fits 64 (value x)) 6 (done (value x)))

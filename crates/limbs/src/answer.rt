@@ -1,6 +1,7 @@
 // What a call answers.
 ghost use mathlib.Core.Path.{_≡_};
-ghost use Rattle.limbs.specs.Buffer.{refused, integer, refusal, number};
+ghost use Rattle.outcomes.specs.Outcome as outcome;
+ghost use Rattle.limbs.specs.Buffer.{refusal, number};
 use super::Number;
 use super::Written;
 
@@ -14,7 +15,7 @@ pub fn refuse(k: u64) -> Written
 }
 
 pub fn refuse_number(k: u64) -> Number
-    ensures { λ r. ⌜ r ≡ number (refused k) ⌝ }
+    ensures { λ r. ⌜ r ≡ number (outcome.refuse k) ⌝ }
 {
     Number {
         refusal: k,
@@ -23,7 +24,7 @@ pub fn refuse_number(k: u64) -> Number
 }
 
 pub fn done(v: i64) -> Number
-    ensures { λ r. ⌜ r ≡ number (integer v) ⌝ }
+    ensures { λ r. ⌜ r ≡ number (outcome.done v) ⌝ }
 {
     Number {
         refusal: 0,

@@ -1,11 +1,11 @@
-// What is decided before a result is measured: refusals 7 and 5, by their numbers; 0 where there is none.
+// What is decided before a result is measured: refusals 7 and 5. A check answers the numbers that the call goes on with.
 ghost use mathlib.Core.Path.{_≡_};
-ghost use lib.IntN.{pos};
-ghost use lib.Signed.{leZ};
-ghost use Rattle.bits.specs.Range as range;
-ghost use Rattle.limbs.specs.Buffer.{Outcome, unless};
-ghost use Rattle.limbs.specs.Inner.{Decides};
-ghost use Rattle.limbs.specs.Operations.{isOperand, operand, field};
+ghost use mathlib.Core.Bool.{_&&_};
+ghost use lib.IntN.{natAbs};
+ghost use Rattle.outcomes.specs.Outcome as outcome;
+ghost use Rattle.limbs.specs.Inner.{naturalOf, fieldOf, rotationOf, newBitOf};
+ghost use Rattle.limbs.specs.Operations.{isOperand, operand, natural, isField, field, isNewBit, newBit};
+use words::range::within;
 
 pub const MOST_LIMBS: usize = 1024;
 
@@ -13,80 +13,114 @@ const LAST_END: i64 = 32767;
 
 const LAST_BIT: i64 = 32766;
 
+// A number that may not be negative.
+pub enum Natural {
+    Legal(u64),
+    Refused(u64),
+}
+
+pub enum Field {
+    Legal { start: u64, end: u64 },
+    Refused(u64),
+}
+
+// A field and a count.
+pub enum Rotation {
+    Legal { start: u64, end: u64, count: u64 },
+    Refused(u64),
+}
+
+// A position and what its bit becomes.
+pub enum NewBit {
+    Legal { position: u64, bit: u32 },
+    Refused(u64),
+}
+
 pub fn is_operand(x: &[u32]) -> bool
     ensures { λ r. ⌜ r ≡ isOperand (now (x .entry)) ⌝ }
 {
     1 <= x.len() && x.len() <= MOST_LIMBS
 }
 
-pub fn check_operands(x: &[u32], y: &[u32], z: &[u32]) -> u64
-    ensures { λ r. ⌜ Decides (λ o. operand (now (x .entry)) (operand (now (y .entry)) (operand (now (z .entry)) o))) r ⌝ }
+pub fn are_operands(x: &[u32], y: &[u32]) -> bool
+    ensures { λ r. ⌜ r ≡ isOperand (now (x .entry)) && isOperand (now (y .entry)) ⌝ }
 {
-    if !is_operand(x) {
-        return 7;
-    }
-    if !is_operand(y) {
-        return 7;
-    }
-    if !is_operand(z) {
-        return 7;
-    }
-    0
-}
-
-fn within(low: i64, x: i64, high: i64) -> bool
-    ensures { λ r. ⌜ r ≡ range.within low x high ⌝ }
-{
-    low <= x && x <= high
+    is_operand(x) && is_operand(y)
 }
 
 fn is_field(start: i64, end: i64) -> bool
-    ensures { λ r. ⌜ ((o : Outcome) → field start end o ≡ unless r 5 o) ⌝ }
+    ensures { λ r. ⌜ r ≡ isField start end ⌝ }
 {
     within(0, start, end) && end <= LAST_END
 }
 
-// Two operands and a field.
-pub fn check_field(x: &[u32], y: &[u32], start: i64, end: i64) -> u64
-    ensures { λ r. ⌜ Decides (λ o. operand (now (x .entry)) (operand (now (y .entry)) (field start end o))) r ⌝ }
+fn is_new_bit(position: i64, bit: i64) -> bool
+    ensures { λ r. ⌜ r ≡ isNewBit position bit ⌝ }
 {
-    let refusal = check_operands(x, y, y);
-    if refusal != 0 {
-        return refusal;
-    }
-    if is_field(start, end) { 0 } else { 5 }
-}
-
-// An operand, a field and a count that may not be negative.
-pub fn check_rotation(x: &[u32], start: i64, end: i64, count: i64) -> u64
-    ensures { λ r. ⌜ Decides (λ o. operand (now (x .entry)) (field start end (unless (leZ (pos 0) count) 5 o))) r ⌝ }
-{
-    let refusal = check_field(x, x, start, end);
-    if refusal != 0 {
-        return refusal;
-    }
-    if 0 <= count { 0 } else { 5 }
-}
-
-// An operand, a position and a new bit.
-pub fn check_bit(x: &[u32], k: i64, bit: i64) -> u64
-    ensures { λ r. ⌜ Decides (λ o. operand (now (x .entry)) (unless (range.within (pos 0) k (pos 32766)) 5 (unless (range.within (pos 0) bit (pos 1)) 5 o))) r ⌝ }
-{
-    if !is_operand(x) {
-        return 7;
-    }
-    if !within(0, k, LAST_BIT) {
-        return 5;
-    }
-    if within(0, bit, 1) { 0 } else { 5 }
+    within(0, position, LAST_BIT) && within(0, bit, 1)
 }
 
 // An operand and a number that may not be negative.
-pub fn check_count(x: &[u32], n: i64) -> u64
-    ensures { λ r. ⌜ Decides (λ o. operand (now (x .entry)) (unless (leZ (pos 0) n) 5 o)) r ⌝ }
+pub fn check_natural(x: &[u32], n: i64) -> Natural
+    ensures { λ r. ⌜ naturalOf r ≡ operand (now (x .entry)) (natural n (outcome.done (natAbs n))) ⌝ }
 {
     if !is_operand(x) {
-        return 7;
+        return Natural::Refused(7);
     }
-    if 0 <= n { 0 } else { 5 }
+    if n < 0 {
+        return Natural::Refused(5);
+    }
+    Natural::Legal(n as u64)
+}
+
+// Two operands and a field.
+pub fn check_field(x: &[u32], y: &[u32], start: i64, end: i64) -> Field
+    ensures { λ r. ⌜ fieldOf r ≡ operand (now (x .entry)) (operand (now (y .entry)) (field start end (outcome.done (natAbs start, natAbs end)))) ⌝ }
+{
+    if !are_operands(x, y) {
+        return Field::Refused(7);
+    }
+    if !is_field(start, end) {
+        return Field::Refused(5);
+    }
+    Field::Legal {
+        start: start as u64,
+        end: end as u64,
+    }
+}
+
+// An operand, a field and a count that may not be negative.
+pub fn check_rotation(x: &[u32], start: i64, end: i64, count: i64) -> Rotation
+    ensures { λ r. ⌜ rotationOf r ≡ operand (now (x .entry)) (field start end (natural count (outcome.done (natAbs start, (natAbs end, natAbs count))))) ⌝ }
+{
+    if !is_operand(x) {
+        return Rotation::Refused(7);
+    }
+    if !is_field(start, end) {
+        return Rotation::Refused(5);
+    }
+    if count < 0 {
+        return Rotation::Refused(5);
+    }
+    Rotation::Legal {
+        start: start as u64,
+        end: end as u64,
+        count: count as u64,
+    }
+}
+
+// An operand, a position and a new bit.
+pub fn check_new_bit(x: &[u32], position: i64, bit: i64) -> NewBit
+    ensures { λ r. ⌜ newBitOf r ≡ operand (now (x .entry)) (newBit position bit (outcome.done (natAbs position, natAbs bit))) ⌝ }
+{
+    if !is_operand(x) {
+        return NewBit::Refused(7);
+    }
+    if !is_new_bit(position, bit) {
+        return NewBit::Refused(5);
+    }
+    NewBit::Legal {
+        position: position as u64,
+        bit: bit as u32,
+    }
 }

@@ -6,46 +6,48 @@
 // A refused call changes nothing.
 ghost use mathlib.Core.Path.{_≡_};
 ghost use mathlib.Core.Bool.{_&&_, _||_, xor};
-ghost use Rattle.limbs.specs.Buffer.{Writes, integer, number};
+ghost use Rattle.outcomes.specs.Outcome as outcome;
+ghost use Rattle.limbs.specs.Buffer.{Writes, number};
+ghost use Rattle.limbwords.specs.Results.{logicOf};
 ghost use Rattle.limbs.specs.Operations.{notOutcome, bitwiseOutcome, ifOutcome, copyBitOutcome, bitFieldOutcome, copyBitFieldOutcome, shiftOutcome, shiftLeftOutcome, shiftRightOutcome, rotateOutcome, reverseOutcome, bitCountOutcome, lengthOutcome, firstBitSetOutcome, bitSetOutcome, wordOutcome};
 
 pub mod answer;
 mod check;
-mod index;
-mod logical;
-mod operand;
+mod field;
 mod run;
-mod segment;
-mod write;
+mod shift;
 
 use answer::done;
 use answer::refuse;
 use answer::refuse_number;
-use check::check_bit;
-use check::check_count;
+use check::Field;
+use check::Natural;
+use check::NewBit;
+use check::Rotation;
+use check::are_operands;
 use check::check_field;
-use check::check_operands;
+use check::check_natural;
+use check::check_new_bit;
 use check::check_rotation;
 use check::is_operand;
-use index::most;
+use field::reduced;
+use field::run_field;
 use limbwords::count::bit_count;
 use limbwords::count::bit_length;
 use limbwords::count::first_bit_set;
 use limbwords::limb::window;
+use limbwords::measure::shortest_length;
 use limbwords::result::Logic;
 use limbwords::result::Operation;
-use limbwords::signed::complement;
 use limbwords::signed::natural;
 use limbwords::signed::word;
 use limbwords::signed::word_bits;
-use operand::combine_operands;
-use operand::copy_field;
-use operand::move_left;
-use operand::move_right;
-use operand::reverse_field;
-use operand::rotate_field;
-use operand::take_field;
+use limbwrite::index::max;
 use run::run;
+use run::store_limbs;
+use shift::negated;
+use shift::shift_left;
+use shift::shift_right;
 
 // What a call answers that writes an integer: a refusal number, 0 for done, and how many limbs it has written.
 #[repr(C)]
@@ -61,43 +63,55 @@ pub struct Number {
     pub value: i64,
 }
 
+fn combine(by: Logic, x: &[u32], y: &[u32], out: &mut [u32], first: u64) -> Written
+    ensures { λ r. ⌜ Writes (bitwiseOutcome (logicOf by) (now (x .entry)) (now (y .entry))) (now (out .entry)) first r (now (out .exit)) ⌝ }
+{
+    if !are_operands(x, y) {
+        return refuse(7);
+    }
+    let enough = max(x.len(), y.len());
+    run(Operation::Logical(by), x, y, x, enough, out, first)
+}
+
 // bitwise-not
 pub fn bitwise_not(x: &[u32], out: &mut [u32], first: u64) -> Written
     ensures { λ r. ⌜ Writes (notOutcome (now (x .entry))) (now (out .entry)) first r (now (out .exit)) ⌝ }
 {
-    combine_operands(Logic::Not, x, x, out, first)
+    combine(Logic::Not, x, x, out, first)
 }
 
 // bitwise-and of two
 pub fn bitwise_and(x: &[u32], y: &[u32], out: &mut [u32], first: u64) -> Written
     ensures { λ r. ⌜ Writes (bitwiseOutcome _&&_ (now (x .entry)) (now (y .entry))) (now (out .entry)) first r (now (out .exit)) ⌝ }
 {
-    combine_operands(Logic::And, x, y, out, first)
+    combine(Logic::And, x, y, out, first)
 }
 
 // bitwise-ior of two
 pub fn bitwise_ior(x: &[u32], y: &[u32], out: &mut [u32], first: u64) -> Written
     ensures { λ r. ⌜ Writes (bitwiseOutcome _||_ (now (x .entry)) (now (y .entry))) (now (out .entry)) first r (now (out .exit)) ⌝ }
 {
-    combine_operands(Logic::Ior, x, y, out, first)
+    combine(Logic::Ior, x, y, out, first)
 }
 
 // bitwise-xor of two
 pub fn bitwise_xor(x: &[u32], y: &[u32], out: &mut [u32], first: u64) -> Written
     ensures { λ r. ⌜ Writes (bitwiseOutcome xor (now (x .entry)) (now (y .entry))) (now (out .entry)) first r (now (out .exit)) ⌝ }
 {
-    combine_operands(Logic::Xor, x, y, out, first)
+    combine(Logic::Xor, x, y, out, first)
 }
 
 // bitwise-if
 pub fn bitwise_if(x: &[u32], y: &[u32], z: &[u32], out: &mut [u32], first: u64) -> Written
     ensures { λ r. ⌜ Writes (ifOutcome (now (x .entry)) (now (y .entry)) (now (z .entry))) (now (out .entry)) first r (now (out .exit)) ⌝ }
 {
-    let refusal = check_operands(x, y, z);
-    if refusal != 0 {
-        return refuse(refusal);
+    if !are_operands(x, y) {
+        return refuse(7);
     }
-    let enough = most(x.len(), most(y.len(), z.len()));
+    if !is_operand(z) {
+        return refuse(7);
+    }
+    let enough = max(x.len(), max(y.len(), z.len()));
     run(Operation::If, x, y, z, enough, out, first)
 }
 
@@ -105,30 +119,34 @@ pub fn bitwise_if(x: &[u32], y: &[u32], z: &[u32], out: &mut [u32], first: u64) 
 pub fn bitwise_copy_bit(x: &[u32], position: i64, bit: i64, out: &mut [u32], first: u64) -> Written
     ensures { λ r. ⌜ Writes (copyBitOutcome (now (x .entry)) position bit) (now (out .entry)) first r (now (out .exit)) ⌝ }
 {
-    let refusal = check_bit(x, position, bit);
-    if refusal != 0 {
-        return refuse(refusal);
+    match check_new_bit(x, position, bit) {
+        NewBit::Legal { position, bit } => {
+            let start = position;
+            let end = position + 1;
+            run_field(
+                Operation::CopyField { start, end },
+                x,
+                &[bit],
+                end,
+                out,
+                first,
+            )
+        }
+        NewBit::Refused(k) => refuse(k),
     }
-    let source = [natural(bit) as u32];
-    copy_field(
-        x,
-        &source,
-        natural(position),
-        natural(position) + 1,
-        out,
-        first,
-    )
 }
 
 // bitwise-bit-field: the field as a number
 pub fn bitwise_bit_field(x: &[u32], start: i64, end: i64, out: &mut [u32], first: u64) -> Written
     ensures { λ r. ⌜ Writes (bitFieldOutcome (now (x .entry)) start end) (now (out .entry)) first r (now (out .exit)) ⌝ }
 {
-    let refusal = check_field(x, x, start, end);
-    if refusal != 0 {
-        return refuse(refusal);
+    match check_field(x, x, start, end) {
+        Field::Legal { start, end } => {
+            let enough = ((end - start) / 32) as usize + 1;
+            run(Operation::Field { start, end }, x, x, x, enough, out, first)
+        }
+        Field::Refused(k) => refuse(k),
     }
-    take_field(x, natural(start), natural(end), out, first)
 }
 
 // bitwise-copy-bit-field: the field gets the low bits of y
@@ -142,25 +160,25 @@ pub fn bitwise_copy_bit_field(
 ) -> Written
     ensures { λ r. ⌜ Writes (copyBitFieldOutcome (now (x .entry)) start end (now (y .entry))) (now (out .entry)) first r (now (out .exit)) ⌝ }
 {
-    let refusal = check_field(x, y, start, end);
-    if refusal != 0 {
-        return refuse(refusal);
+    match check_field(x, y, start, end) {
+        Field::Legal { start, end } => {
+            run_field(Operation::CopyField { start, end }, x, y, end, out, first)
+        }
+        Field::Refused(k) => refuse(k),
     }
-    copy_field(x, y, natural(start), natural(end), out, first)
 }
 
 // bitwise-arithmetic-shift: to the left by a positive distance, to the right by a negative one
 pub fn bitwise_shift(x: &[u32], distance: i64, out: &mut [u32], first: u64) -> Written
     ensures { λ r. ⌜ Writes (shiftOutcome (now (x .entry)) distance) (now (out .entry)) first r (now (out .exit)) ⌝ }
 {
-    let refusal = check_operands(x, x, x);
-    if refusal != 0 {
-        return refuse(refusal);
+    if !is_operand(x) {
+        return refuse(7);
     }
     if distance < 0 {
-        move_right(x, complement(distance) + 1, out, first)
+        shift_right(x, negated(distance), out, first)
     } else {
-        move_left(x, natural(distance), out, first)
+        shift_left(x, natural(distance), out, first)
     }
 }
 
@@ -168,22 +186,20 @@ pub fn bitwise_shift(x: &[u32], distance: i64, out: &mut [u32], first: u64) -> W
 pub fn bitwise_shift_left(x: &[u32], distance: i64, out: &mut [u32], first: u64) -> Written
     ensures { λ r. ⌜ Writes (shiftLeftOutcome (now (x .entry)) distance) (now (out .entry)) first r (now (out .exit)) ⌝ }
 {
-    let refusal = check_count(x, distance);
-    if refusal != 0 {
-        return refuse(refusal);
+    match check_natural(x, distance) {
+        Natural::Legal(by) => shift_left(x, by, out, first),
+        Natural::Refused(k) => refuse(k),
     }
-    move_left(x, natural(distance), out, first)
 }
 
 // bitwise-arithmetic-shift-right
 pub fn bitwise_shift_right(x: &[u32], distance: i64, out: &mut [u32], first: u64) -> Written
     ensures { λ r. ⌜ Writes (shiftRightOutcome (now (x .entry)) distance) (now (out .entry)) first r (now (out .exit)) ⌝ }
 {
-    let refusal = check_count(x, distance);
-    if refusal != 0 {
-        return refuse(refusal);
+    match check_natural(x, distance) {
+        Natural::Legal(by) => shift_right(x, by, out, first),
+        Natural::Refused(k) => refuse(k),
     }
-    move_right(x, natural(distance), out, first)
 }
 
 // bitwise-rotate-bit-field: towards the high end
@@ -197,22 +213,25 @@ pub fn bitwise_rotate(
 ) -> Written
     ensures { λ r. ⌜ Writes (rotateOutcome (now (x .entry)) start end count) (now (out .entry)) first r (now (out .exit)) ⌝ }
 {
-    let refusal = check_rotation(x, start, end, count);
-    if refusal != 0 {
-        return refuse(refusal);
+    match check_rotation(x, start, end, count) {
+        Rotation::Legal { start, end, count } => {
+            let by = reduced(count, end - start);
+            run_field(Operation::Rotate { start, end, by }, x, x, end, out, first)
+        }
+        Rotation::Refused(k) => refuse(k),
     }
-    rotate_field(x, natural(start), natural(end), natural(count), out, first)
 }
 
 // bitwise-reverse-bit-field
 pub fn bitwise_reverse(x: &[u32], start: i64, end: i64, out: &mut [u32], first: u64) -> Written
     ensures { λ r. ⌜ Writes (reverseOutcome (now (x .entry)) start end) (now (out .entry)) first r (now (out .exit)) ⌝ }
 {
-    let refusal = check_field(x, x, start, end);
-    if refusal != 0 {
-        return refuse(refusal);
+    match check_field(x, x, start, end) {
+        Field::Legal { start, end } => {
+            run_field(Operation::Reverse { start, end }, x, x, end, out, first)
+        }
+        Field::Refused(k) => refuse(k),
     }
-    reverse_field(x, natural(start), natural(end), out, first)
 }
 
 // bitwise-bit-count
@@ -249,13 +268,10 @@ pub fn bitwise_first_bit_set(x: &[u32]) -> Number
 pub fn bitwise_bit_set(x: &[u32], position: i64) -> Number
     ensures { λ r. ⌜ r ≡ number (bitSetOutcome (now (x .entry)) position) ⌝ }
 {
-    if !is_operand(x) {
-        return refuse_number(7);
+    match check_natural(x, position) {
+        Natural::Legal(at) => done((window(x, at) % 2) as i64),
+        Natural::Refused(k) => refuse_number(k),
     }
-    if position < 0 {
-        return refuse_number(5);
-    }
-    done((window(x, position as u64) % 2) as i64)
 }
 
 // An integer as one signed 64-bit word; refusal 6 where it does not fit.
@@ -273,16 +289,8 @@ pub fn to_word(x: &[u32]) -> Number
 
 // One signed 64-bit word as limbs.
 pub fn from_word(v: i64, out: &mut [u32], first: u64) -> Written
-    ensures { λ r. ⌜ Writes (integer v) (now (out .entry)) first r (now (out .exit)) ⌝ }
+    ensures { λ r. ⌜ Writes (outcome.done v) (now (out .entry)) first r (now (out .exit)) ⌝ }
 {
     let limbs = [word_bits(v, 0), word_bits(v, 32)];
-    run(
-        Operation::ShiftRight { by: 0 },
-        &limbs,
-        &limbs,
-        &limbs,
-        2,
-        out,
-        first,
-    )
+    store_limbs(&limbs, shortest_length(&limbs), out, first)
 }

@@ -12,20 +12,20 @@ use lib.IntN.{ℤ, pos, negsuc}
 use lib.ListN.{length, getD}
 use lib.Signed.{mag}
 use borrow.Author.Tests.{eqb-true, eqb-false, eq-eqb, ne-eqb}
-use Rattle.bits.specs.Testbit.{odd, isNegative, testbit, bitLength}
+use Rattle.bits.specs.Testbit.{isNegative, testbit, bitLength}
 use Rattle.words.specs.Sign.{ofMagnitude}
-use Rattle.bits.specs.Logical.{bitwiseNot}
 use Rattle.bits.specs.Shift.{floorDiv, shiftRight}
 use Rattle.bits.specs.Division.{modℕ}
 use Rattle.bits.specs.Count.{onesBelow, ones, bitCount, firstBitSet}
-use Rattle.bits.proofs.TestbitLaws.{by-lt, testbit-ext, testbit-zero, testbit-above}
+use Rattle.bits.proofs.TestbitLaws.{by-lt, testbit-ext, testbit-zero, testbit-above, testbit-digit}
 use Rattle.words.proofs.MagnitudeLaws.{bitLength-mag, testbit-mag}
+use Rattle.words.proofs.CountWords.{bitCount-mag}
 use Rattle.bits.proofs.LengthLaws.{bitLength-le, mag-lt, bitLength-least-bits, testbit-top}
 use Rattle.bits.proofs.CountLaws.{onesBelow-ext, onesBelow-le, onesBelow-split, ones-onesBelow, firstBitSet-unique, firstBitSet-none}
 use Rattle.words.proofs.Digitwise.{testbit-digitwise, xor-digitwise}
 use Rattle.limbwords.specs.Value.{value, bitsFrom}
 use Rattle.limbwords.proofs.ValueLaws.{small-bits, testbit-value, value-length}
-use Rattle.limbwords.proofs.LimbLaws.{bitsFrom-lt, testbit-bitsFrom, word-ext, limb-value, bitsFrom-above}
+use Rattle.limbwords.proofs.LimbLaws.{bitsFrom-lt, testbit-bitsFrom, word-ext, limb-value, bitsFrom-above, length-below}
 
 -- what continues an integer is not 0 exactly where it is negative
 pub sign-test : (z : ℤ) (k : ℕ) → bitLength z ≤ k → not (eqb (bitsFrom z k) 0) ≡ isNegative z
@@ -57,9 +57,7 @@ ones-limb m at =
 
 -- a count that goes beyond the length is complete
 pub ones-bitCount : (z : ℤ) (k : ℕ) → bitLength z ≤ k → ofMagnitude (isNegative z) (onesBelow k (testbit (pos (mag z)))) ≡ bitCount z
-unfolding ofMagnitude isNegative bitCount bitwiseNot bitLength
-ones-bitCount (pos n) k h = ap pos (sym (ones-onesBelow n k h))
-ones-bitCount (negsuc n) k h = ap negsuc (sym (ones-onesBelow n k h))
+ones-bitCount z k h = ap (ofMagnitude (isNegative z)) (sym (ones-onesBelow (mag z) k (omega (arith, bitLength-mag z)))) ∙ bitCount-mag z
 
 -- ---- the length
 
@@ -86,20 +84,7 @@ length-highest m at h l = omega (arith, bitLength-least-bits (pos w) (bitLength 
         ∙ testbit-above (pos w) t (omega arith))
 
 module _ (z : ℤ) (at k : ℕ) (h : bitLength z ≤ at + 32) (l : bitLength z ≤ k) where
-  -- a limb that only continues the sign
-  pub length-below : bitsFrom z at ≡ bitsFrom z k → bitLength z ≤ at
-  length-below e = bitLength-least-bits z at (λ i g. by-lt (λ b. testbit z i ≡ isNegative z) i (at + 32) (in-limb i g) (λ f. testbit-above z i (omega arith)))
-    where
-      in-limb : (i : ℕ) → at ≤ i → i < at + 32 → testbit z i ≡ isNegative z
-      in-limb i g f =
-          let q : at + (i - at) ≡ i = omega arith in
-          ap (testbit z) (sym q)
-          ∙ sym (testbit-bitsFrom z at (i - at) (omega arith))
-          ∙ ap (λ (n : ℕ). testbit (pos n) (i - at)) e
-          ∙ testbit-bitsFrom z k (i - at) (omega arith)
-          ∙ testbit-above z (k + (i - at)) (omega arith)
-
-  -- the highest limb that does not
+  -- the highest limb that does not only continue the sign
   pub length-limb : (bitsFrom z at ≡ bitsFrom z k → ⊥) → at + bitLength (pos (bitsFrom (pos (mag z)) at)) ≡ bitLength z
   length-limb e =
       let longer : bitLength z ≤ at → ⊥ = (λ g. e (bitsFrom-above z at g ∙ sym (bitsFrom-above z k l))) in
@@ -133,8 +118,7 @@ none-more z k none e i h = go (eqb i k) refl
 module _ (xs : List ℕ) (j i : ℕ) (h : j < length xs) (l : i < 32) (none : NoneBelow (value xs) (32 * j + i)) where
   -- the code's test is that bit
   tested : testbit (value xs) (32 * j + i) ≡ eqb (getD xs j 0 / 2 ^ i % 2) 1
-  unfolding testbit odd
-  tested = testbit-value xs j i h l
+  tested = testbit-value xs j i h l ∙ testbit-digit (getD xs j 0) i
 
   -- bit i of limb j is the first one
   pub one-found : getD xs j 0 / 2 ^ i % 2 ≡ 1 → pos (32 * j + i) ≡ firstBitSet (value xs)

@@ -10,10 +10,11 @@ use lib.IntN.{ℤ, pos}
 use lib.ListN.{length, getD}
 use lib.Pow.{pow-pos}
 use borrow.Author.Tests.{ltb-true, ltb-false}
-use Rattle.bits.specs.Testbit.{odd, isNegative, testbit, bitLength, fill}
+use Rattle.bits.specs.Testbit.{isNegative, testbit, bitLength, fill}
 use Rattle.bits.specs.Shift.{shiftRight}
 use Rattle.bits.specs.Division.{modℕ}
-use Rattle.bits.proofs.TestbitLaws.{testbit-ext, testbit-shiftRight}
+use Rattle.bits.proofs.TestbitLaws.{by-lt, testbit-ext, testbit-above, testbit-digit, testbit-shiftRight}
+use Rattle.bits.proofs.LengthLaws.{bitLength-least-bits}
 use Rattle.bits.proofs.ShiftLaws.{shiftRight-above}
 use Rattle.bits.proofs.ModLaws.{modℕ-lt}
 use Rattle.words.proofs.FieldWords.{testbit-modℕ-lt, testbit-mod-lt, testbit-div, testbit-digits}
@@ -54,10 +55,22 @@ pub bitsFrom-above : (z : ℤ) (at : ℕ) → bitLength z ≤ at → bitsFrom z 
 unfolding bitsFrom
 bitsFrom-above z at h = ap (λ (y : ℤ). modℕ y (2 ^ 32)) (shiftRight-above z at h) ∙ bitsFrom-fill (isNegative z)
 
+-- a limb that only continues the sign
+pub length-below : (z : ℤ) (at k : ℕ) → bitLength z ≤ at + 32 → bitLength z ≤ k → bitsFrom z at ≡ bitsFrom z k → bitLength z ≤ at
+length-below z at k h l e = bitLength-least-bits z at (λ i g. by-lt (λ b. testbit z i ≡ isNegative z) i (at + 32) (in-limb i g) (λ f. testbit-above z i (omega arith)))
+  where
+    in-limb : (i : ℕ) → at ≤ i → i < at + 32 → testbit z i ≡ isNegative z
+    in-limb i g f =
+        let q : at + (i - at) ≡ i = omega arith in
+        ap (testbit z) (sym q)
+        ∙ sym (testbit-bitsFrom z at (i - at) (omega arith))
+        ∙ ap (λ (n : ℕ). testbit (pos n) (i - at)) e
+        ∙ testbit-bitsFrom z k (i - at) (omega arith)
+        ∙ testbit-above z (k + (i - at)) (omega arith)
+
 -- the top bit of a limb
 pub top-bit : (n : ℕ) → n < 2 ^ 32 → testbit (pos n) 31 ≡ not (ltb n 0x80000000)
-unfolding testbit odd
-top-bit n h = go (ltb n 0x80000000) refl
+top-bit n h = testbit-digit n 31 ∙ go (ltb n 0x80000000) refl
   where
     go : (c : Bool) → ltb n 0x80000000 ≡ c → eqb (n / 2 ^ 31 % 2) 1 ≡ not c
     go true e = let q : n / 2147483648 % 2 ≡ 0 = omega (arith, ltb-true n 0x80000000 e) in ap (λ (d : ℕ). eqb d 1) q

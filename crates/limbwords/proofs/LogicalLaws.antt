@@ -3,19 +3,20 @@ use Prim.Native.Nat.{ℕ, suc, _+_, _*_, _-_, _^_, _<_}
 use native.Mathlib.Nat.{zero-add}
 use native.Mathlib.Omega.{arith}
 use mathlib.Core.Path.{_≡_, sym, ap, ap₂, _∙_}
-use mathlib.Core.Bool.{Bool, not, _&&_, _||_}
+use mathlib.Core.Bool.{Bool, cond, not, _&&_, _||_}
 use mathlib.Core.List.{List}
 use lib.Bits.{bitAnd, bitOr, and-lt, or-lt}
 use lib.IntN.{ℤ, pos}
 use lib.ListN.{length, getD}
 use lib.Pow.{pow-pos}
 use Rattle.bits.specs.Testbit.{testbit}
-use Rattle.bits.specs.Logical.{bitwiseNot, bitwise, bitwiseAnd, bitwiseIor, bitwiseIf}
+use Rattle.bits.specs.Logical.{bitwiseNot, bitwise, bitwiseIf}
 use Rattle.bits.specs.Shift.{shiftRight}
 use Rattle.bits.specs.Division.{modℕ}
 use Rattle.bits.proofs.ModLaws.{modℕ-not, modℕ-small}
 use Rattle.bits.proofs.ShiftLaws.{shiftRight-zero, shiftRight-not}
-use Rattle.bits.proofs.LogicalLaws.{testbit-not, testbit-bitwise}
+use Rattle.bits.proofs.LogicalLaws.{testbit-not, testbit-bitwise, testbit-if}
+use Rattle.bits.proofs.Booleans.{all₃}
 use Rattle.words.proofs.Digitwise.{testbit-digitwise, and-digitwise, ior-digitwise}
 use Rattle.limbwords.specs.Value.{value, bitsFrom, limbAt}
 use Rattle.limbwords.proofs.LimbLaws.{bitsFrom-lt, testbit-bitsFrom, word-ext, limb-value}
@@ -53,24 +54,23 @@ limb-bitwise op xs ys j {r} b c h k l e =
     bitsFrom-bitwise op (value xs) (value ys) (32 * j) r l (λ t m.
     e t m ∙ ap₂ (λ (p q : ℕ). op (testbit (pos p) t) (testbit (pos q) t)) (limb-value xs j b h) (limb-value ys j c k))
 
--- and of two limbs, as a limb of the and
-pub bitsFrom-and : (x y : ℤ) (at : ℕ) → bitAnd (bitsFrom x at) (bitsFrom y at) ≡ bitsFrom (bitwiseAnd x y) at
-unfolding bitwiseAnd
-bitsFrom-and x y at =
-    bitsFrom-bitwise _&&_ x y at _ (and-lt 32 (bitsFrom x at) (bitsFrom y at) (bitsFrom-lt x at) (bitsFrom-lt y at))
-    (λ t k. testbit-digitwise and-digitwise t (bitsFrom x at) (bitsFrom y at))
+-- a choice between two limbs, bit by bit
+choose-bits : (m a b : ℕ) → m < 2 ^ 32 → (t : ℕ) → t < 32
+    → testbit (pos (bitOr (bitAnd m a) (bitAnd (4294967295 - m) b))) t ≡ cond (testbit (pos m) t) (testbit (pos a) t) (testbit (pos b) t)
+choose-bits m a b h t l =
+    testbit-digitwise ior-digitwise t (bitAnd m a) (bitAnd (4294967295 - m) b)
+    ∙ ap₂ _||_ (testbit-digitwise and-digitwise t m a)
+    (testbit-digitwise and-digitwise t (4294967295 - m) b ∙ ap (λ (c : Bool). c && testbit (pos b) t) (not-bits m h t l))
+    ∙ all₃ (λ m a b. m && a || not m && b) cond tt (testbit (pos m) t) (testbit (pos a) t) (testbit (pos b) t)
 
-pub bitsFrom-ior : (x y : ℤ) (at : ℕ) → bitOr (bitsFrom x at) (bitsFrom y at) ≡ bitsFrom (bitwiseIor x y) at
-unfolding bitwiseIor
-bitsFrom-ior x y at =
-    bitsFrom-bitwise _||_ x y at _ (or-lt 32 (bitsFrom x at) (bitsFrom y at) (bitsFrom-lt x at) (bitsFrom-lt y at))
-    (λ t k. testbit-digitwise ior-digitwise t (bitsFrom x at) (bitsFrom y at))
-
--- a choice between two limbs, as a limb of the choice
+-- as a limb of the choice
 pub bitsFrom-if : (x y z : ℤ) (at : ℕ) {m a b : ℕ} → m ≡ bitsFrom x at → a ≡ bitsFrom y at → b ≡ bitsFrom z at
     → bitOr (bitAnd m a) (bitAnd (4294967295 - m) b) ≡ bitsFrom (bitwiseIf x y z) at
-unfolding bitwiseIf
-bitsFrom-if x y z at p q r =
-    rw (p, q, r)
-    (ap₂ bitOr (bitsFrom-and x y at) (ap (λ (n : ℕ). bitAnd n (bitsFrom z at)) (bitsFrom-not x at) ∙ bitsFrom-and (bitwiseNot x) z at)
-    ∙ bitsFrom-ior (bitwiseAnd x y) (bitwiseAnd (bitwiseNot x) z) at)
+bitsFrom-if x y z at {m} {a} {b} p q r =
+    let u : m < 2 ^ 32 = rw p (bitsFrom-lt x at) in
+    let v : a < 2 ^ 32 = rw q (bitsFrom-lt y at) in
+    let w : b < 2 ^ 32 = rw r (bitsFrom-lt z at) in
+    word-ext (bitOr (bitAnd m a) (bitAnd (4294967295 - m) b)) (bitwiseIf x y z) at
+    (or-lt 32 (bitAnd m a) (bitAnd (4294967295 - m) b) (and-lt 32 m a u v) (and-lt 32 (4294967295 - m) b (omega arith) w))
+    (λ t l. choose-bits m a b u t l
+    ∙ rw (p, q, r, testbit-bitsFrom x at t l, testbit-bitsFrom y at t l, testbit-bitsFrom z at t l, testbit-if x y z (at + t)))

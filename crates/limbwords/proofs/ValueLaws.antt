@@ -14,7 +14,7 @@ use borrow.Author.Tests.{ltb-true, ltb-false}
 use Rattle.bits.specs.Testbit.{isNegative, testbit, bitLength, fill, ofBits}
 use Rattle.bits.specs.Shift.{shiftRight}
 use Rattle.bits.specs.Division.{modℕ}
-use Rattle.bits.proofs.TestbitLaws.{testbit-ext, testbit-above, testbit-mag-lt, testbit-shiftRight, testbit-ofBits-lt, testbit-ofBits-ge, isNegative-ofBits, testbit-fill, isNegative-fill, isNegative-shiftRight}
+use Rattle.bits.proofs.TestbitLaws.{testbit-ext, testbit-above, testbit-shiftRight, testbit-ofBits-lt, testbit-ofBits-ge, isNegative-ofBits, testbit-fill, isNegative-fill, isNegative-shiftRight, testbit-small}
 use Rattle.bits.proofs.LengthLaws.{bitLength-least-bits}
 use Rattle.bits.proofs.ShiftLaws.{shiftRight-above}
 use Rattle.bits.proofs.ModLaws.{modℕ-small}
@@ -58,8 +58,7 @@ pos-injective m n e = cc
 
 -- a limb has no ones from bit 32 on
 pub small-bits : (n i : ℕ) → n < 2 ^ 32 → 32 ≤ i → testbit (pos n) i ≡ false
-unfolding isNegative
-small-bits n i h k = testbit-mag-lt (pos n) i (lt-of-lt-of-le h (pow-mono k))
+small-bits n i h k = testbit-small n 32 i h k
 
 pub low-onTop : (n : ℕ) (t : ℤ) → n < 2 ^ 32 → modℕ (onTop n t) (2 ^ 32) ≡ n
 low-onTop n t h = pos-injective (modℕ (onTop n t) (2 ^ 32)) n (testbit-ext (λ i. testbit-modℕ-pow (onTop n t) 32 i ∙ go i (ltb i 32) refl))
@@ -106,9 +105,9 @@ value-length (n ∷ ms) h =
 
 -- one limb without its top bit
 pub value-small : (n : ℕ) → n < 2 ^ 31 → value (n ∷ []) ≡ pos n
-unfolding value onTop fill isNegative
+unfolding value onTop fill
 value-small n h =
-    ap (λ (s : Bool). ofBits 32 (λ i. testbit (pos n) i) (fill s)) (testbit-mag-lt (pos n) 31 h)
+    ap (λ (s : Bool). ofBits 32 (λ i. testbit (pos n) i) (fill s)) (testbit-small n 31 31 h (omega arith))
     ∙ ofBits-modℕ 32 (pos n)
     ∙ ap pos (modℕ-small n (2 ^ 32) (lt-of-lt-of-le h (pow-mono {i = 31} {j = 32} (omega arith))))
 

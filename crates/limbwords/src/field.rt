@@ -31,6 +31,12 @@ fn lay(inside: u32, outside: u32, start: u64, end: u64, j: usize) -> u32
     splice_at(outside, splice_at(inside, outside, j, end), j, start)
 }
 
+// x with its field replaced by the low bits of y. A picture with limbs of 4 bits:
+//
+//                         limb 1    limb 0
+//     start 2   x         h g f e   d c b a
+//     end 7     y         u t s r   q p o n
+//               result    h r q p   o n b a
 pub fn copy_field_limb(x: &[u32], y: &[u32], start: u64, end: u64, j: usize) -> u32
     requires { ⌜ (0 < length (now x)) × (0 < length (now y)) ⌝ }
     requires { ⌜ (start ≤ end) × (end < 2 ^ 32) ⌝ }
@@ -46,11 +52,16 @@ pub fn copy_field_limb(x: &[u32], y: &[u32], start: u64, end: u64, j: usize) -> 
     )
 }
 
-// A rotation by c moves the upper c bits of the field to its low end, and the others up by c.
+// A rotation moves the upper `by` bits of the field to its low end, and the others up by as many. A picture with limbs of 4 bits:
+//
+//                         limb 1    limb 0
+//     start 2   x         h g f e   d c b a
+//     end 7     upper     . . . .   g f . .
+//     by 2      others    . e d c   . . . .
+//               result    h e d c   g f b a
 pub fn rotate_limb(x: &[u32], start: u64, end: u64, by: u64, j: usize) -> u32
     requires { ⌜ 0 < length (now x) ⌝ }
-    requires { ⌜ (start ≤ end) × (end < 2 ^ 32) ⌝ }
-    requires { ⌜ by ≤ end - start ⌝ }
+    requires { ⌜ ((start ≤ end) × (end < 2 ^ 32)) × (by ≤ end - start) ⌝ }
     requires { ⌜ j < 2 ^ 32 ⌝ }
     ensures { λ r. ⌜ r ≡ limbAt (rotateBitField (value (now (x .entry))) start end (pos by)) j ⌝ }
 {

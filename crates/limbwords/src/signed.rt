@@ -1,8 +1,8 @@
 // Signed 64-bit numbers: as a position, from limbs and as limbs.
 ghost use mathlib.Core.Path.{_≡_};
-ghost use mathlib.Core.Bool.{true, false};
+ghost use mathlib.Core.Bool.{true};
 ghost use Prim.Native.Nat.{_^_, _<_};
-ghost use lib.IntN.{pos, negsuc, natAbs};
+ghost use lib.IntN.{pos, natAbs};
 ghost use lib.Signed.{leZ};
 ghost use lib.ListN.{length};
 ghost use Rattle.bits.specs.Testbit.{bitLength};
@@ -18,14 +18,6 @@ pub fn natural(n: i64) -> u64
     ensures { λ r. ⌜ r ≡ natAbs n ⌝ }
 {
     n as u64
-}
-
-// For a negative number, -(n + 1). There is one for -2^63 too.
-pub fn complement(n: i64) -> u64
-    requires { ⌜ leZ (pos 0) n ≡ false ⌝ }
-    ensures { λ r. ⌜ n ≡ negsuc r ⌝ }
-{
-    (!n) as u64
 }
 
 // The value of limbs that one word can hold.

@@ -3,14 +3,12 @@ use Prim.Native.Nat.{ℕ, _+_, _-_, _%_, _≤_, _<_}
 use native.Mathlib.Omega.{arith}
 use native.Mathlib.Nat.{add-mod, mod-lt, mod-eq-of-lt, mod-eq-sub-mod, mod-self}
 use mathlib.Core.Path.{_≡_, ap, sym, _∙_}
-use lib.IntN.{ℤ, pos, _-ℤ_}
-use Rattle.bits.specs.Division.{modℕ, «mod»}
+use lib.IntN.{pos}
 use Rattle.bits.specs.FieldList.{countCall, rotate, reverse}
-use Rattle.bits.proofs.IntegerLaws.{pos-sub-ge}
+use Rattle.bits.proofs.RotationCounts.{countCall-rotate, countCall-reverse}
 
 rotated : (size net count : ℕ) → countCall size (rotate (pos count)) (pos net) ≡ pos ((net % size + count % size) % size)
-unfolding countCall «mod» modℕ
-rotated size net count = ap pos (add-mod net count size)
+rotated size net count = countCall-rotate size net count ∙ ap pos (add-mod net count size)
 
 pub rotate-below : (size net count : ℕ) → net % size < size - count % size → pos (net % size + count % size) ≡ countCall size (rotate (pos count)) (pos net)
 rotate-below size net count h = sym (rotated size net count ∙ ap pos (mod-eq-of-lt (omega (arith, h))))
@@ -22,15 +20,9 @@ rotate-above size net count h k =
     ∙ ap pos (omega (arith, k, mod-lt count h)))
 
 pub reverse-some : (size net : ℕ) → 0 < net → net < size → pos (size - net) ≡ countCall size reverse (pos net)
-unfolding countCall «mod» modℕ
-reverse-some size net h k =
-    sym (ap (λ (z : ℤ). pos (modℕ z size)) (pos-sub-ge size net (omega (arith, k))) ∙ ap pos (mod-eq-of-lt (omega (arith, h, k))))
+reverse-some size net h k = sym (countCall-reverse size net (omega arith) ∙ ap pos (mod-eq-of-lt (omega arith)))
 
 pub reverse-none : (size net : ℕ) → net ≡ 0 → pos 0 ≡ countCall size reverse (pos net)
-unfolding countCall «mod» modℕ
 reverse-none size net h =
-    let whole : size - 0 ≡ size = omega arith in
-    sym (ap (λ (n : ℕ). pos (modℕ (pos size -ℤ pos n) size)) h
-    ∙ ap (λ (z : ℤ). pos (modℕ z size)) (pos-sub-ge size 0 (omega arith))
-    ∙ ap (λ (n : ℕ). pos (n % size)) whole
-    ∙ ap pos (mod-self size))
+    let whole : size - net ≡ size = omega arith in
+    sym (countCall-reverse size net (omega arith) ∙ ap (λ (n : ℕ). pos (n % size)) whole ∙ ap pos (mod-self size))

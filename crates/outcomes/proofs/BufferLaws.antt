@@ -5,12 +5,12 @@ use mathlib.Core.Path.{_≡_, refl, sym, ap, _∙_}
 use mathlib.Core.Bool.{Bool, true, false}
 use mathlib.Core.List.{List, _++_, append-nil}
 use lib.Dec.{leb}
-use lib.ListN.{length, take, drop, length-drop, drop-of-length-le}
+use lib.ListN.{length, take, drop, length-take, length-drop, length-append, drop-of-length-le}
 use lib.Seq.{drop-drop, take-all, length-take-le, take-append-seam, drop-append-seam}
-use borrow.Author.Tests.{le-leb, lt-leb, leb-true}
+use borrow.Author.Tests.{le-leb, lt-leb, leb-true, leb-false}
 use borrow.Rule.Slice.PartMut.{putMid}
-use Rattle.outcomes.specs.Outcome.{Outcome, refused, done, refuse, guard, guardAt}
-use Rattle.outcomes.specs.Buffer.{capacity, laid, fitted, countOf, Puts}
+use Rattle.outcomes.specs.Outcome.{Outcome, refused, done, refuse, guard, guardAt, refusalOf}
+use Rattle.outcomes.specs.Buffer.{capacity, laid, fitted, afterwards, countOf, Puts}
 use Rattle.outcomes.proofs.OutcomeLaws.{passed, failed}
 use Rattle.outcomes.proofs.PutsLaws.{puts-list}
 
@@ -35,6 +35,22 @@ module _ {A : Type 0} where
       ∙ ap (take (length xs)) (drop-append-seam (take first out) rest)
       ∙ take-append-seam xs (drop (first + length xs) out)
 
+  -- a done call's elements, of which there is at least one
+  pub read-back : (xs out : List A) (first : ℕ) → 0 < length xs → refusalOf (fitted (done xs) out first) ≡ 0
+      → take (countOf (fitted (done xs) out first)) (drop first (afterwards (fitted (done xs) out first) out first)) ≡ xs
+  unfolding countOf afterwards refusalOf
+  read-back xs out first h q = go (leb (length xs) (length out - first)) refl
+    where
+      go : (t : Bool) → leb (length xs) (length out - first) ≡ t
+          → take (countOf (fitted (done xs) out first)) (drop first (afterwards (fitted (done xs) out first) out first)) ≡ xs
+      go true e =
+          let l = leb-true (length xs) (length out - first) e in
+          ap (λ (p : Outcome (List A)). take (countOf p) (drop first (afterwards p out first))) (fitted-room xs out first l)
+          ∙ laid-copy out first xs (omega arith)
+      go false e =
+          let z : _≡_ {A = ℕ} 8 0 = sym (ap refusalOf (fitted-no-room xs out first (leb-false (length xs) (length out - first) e))) ∙ q in
+          absurd (omega arith)
+
   -- no more elements are counted than the buffer has from the first on
   pub countOf-room : (o : Outcome (List A)) (out : List A) (first : ℕ) → countOf (fitted o out first) ≤ length out - first
   unfolding fitted countOf capacity guard guardAt
@@ -44,6 +60,22 @@ module _ {A : Type 0} where
       go : (t : Bool) → leb (length xs) (length out - first) ≡ t → countOf (guard t 8 (done xs)) ≤ length out - first
       go true e = leb-true (length xs) (length out - first) e
       go false e = omega arith
+
+  -- a call changes no buffer's length
+  pub afterwards-length : (o : Outcome (List A)) (out : List A) (first : ℕ) → length (afterwards (fitted o out first) out first) ≡ length out
+  unfolding fitted afterwards capacity laid guard guardAt
+  afterwards-length (refused k detail) out first = refl
+  afterwards-length (done xs) out first = go (leb (length xs) (length out - first)) refl
+    where
+      go : (t : Bool) → leb (length xs) (length out - first) ≡ t → length (afterwards (guard t 8 (done xs)) out first) ≡ length out
+      go true e =
+          let n = leb-true (length xs) (length out - first) e in
+          let t = length-take first out in
+          let d = length-drop (first + length xs) out in
+          let a = length-append (take first out) (xs ++ drop (first + length xs) out) in
+          let b = length-append xs (drop (first + length xs) out) in
+          omega (arith, n, t, d, a, b)
+      go false e = refl
 
   -- ---- the part of the buffer from the first element on, lent and come back
 

@@ -1,5 +1,5 @@
 -- What reading and spelling answer counts limbs and bytes at the start of the buffer. Assumes nothing.
-use Prim.Native.Nat.{ℕ, _^_}
+use Prim.Native.Nat.{ℕ, _+_, _^_, _≤_}
 use native.Mathlib.Omega.{arith}
 use mathlib.Core.Path.{_≡_, sym, ap, _∙_}
 use mathlib.Core.Bool.{Bool, true, false, cond, _&&_, _||_, true≢false}
@@ -9,12 +9,14 @@ use lib.IntN.{natAbs}
 use lib.ListN.{length, take, drop, length-take, length-append}
 use Rattle.io.specs.Counts.{Counts}
 use Rattle.io.proofs.Counting.{counts}
+use Rattle.outcomes.specs.Outcome.{Outcome, refused, done}
+use Rattle.outcomes.specs.Buffer.{laid, afterwards, countOf}
 use Rattle.limbwords.specs.Value.{limbCount}
 use Rattle.limbwords.proofs.ValueLaws.{length-shortest}
 use Rattle.text.specs.declared.LimbReading.{LimbReading}
 use Rattle.text.specs.Numerals.{isHex, isInteger, integer}
 use Rattle.text.specs.Readings.{enough, limbReading, Holds}
-use Rattle.text.specs.Spellings.{written, Spells}
+use Rattle.text.specs.Spellings.{spelling, Spells}
 
 isLimbs : LimbReading → Bool
 isLimbs (LimbReading.Limbs n) = true
@@ -39,6 +41,12 @@ limbs-counted {cs} {out} {r} {n} k e h l =
     let long : length (take n out) ≡ limbCount (integer cs) = ap (λ (xs : List ℕ). length xs) (h .limbs n l) ∙ length-shortest (integer cs) in
     counts n out (omega (arith, all, long, length-take n out))
 
+-- what was put at the start of a buffer lies within it
+countOf-within : (o : Outcome (List ℕ)) (out : List ℕ) → countOf o ≤ length (afterwards o out 0)
+unfolding countOf afterwards laid
+countOf-within (refused k detail) out = omega arith
+countOf-within (done xs) out = omega (arith, length-append xs (drop (0 + length xs) out))
+
 pub bytes-counted : {xs out out′ : List ℕ} {r : ℕ} → Spells xs out r out′ → Counts r out′
 bytes-counted {xs} {out} {out′} {r} s =
-    counts r out′ (omega (arith, s .count, ap (λ (cs : List ℕ). length cs) (s .buffer), length-append (written xs out) (drop r out)))
+    counts r out′ (omega (arith, s .count, ap (λ (cs : List ℕ). length cs) (s .buffer), countOf-within (spelling xs out) out))

@@ -2,14 +2,15 @@
 ghost use mathlib.Core.Path.{_≡_};
 ghost use Prim.Native.Nat.{_≤_};
 ghost use lib.ListN.{length};
-use super::argument::bitwise_operation;
-use super::argument::complain;
 use super::argument::limbs_of;
-use super::argument::number_if;
+use super::argument::line_of;
+use super::argument::usage_error;
 use super::argument::words_from;
 use super::bitwise_rules::arity;
 use super::bitwise_rules::explain_bitwise;
 use super::bitwise_rules::numbers_of;
+use super::names::BITWISE;
+use super::request::numbers_from;
 use limbs::Number;
 use limbs::Written;
 use output::print;
@@ -49,7 +50,8 @@ fn print_limbs(x: &mut [u32]) {
     print(b"\n");
 }
 
-fn call(index: u64, x: &[u32], y: &[u32], z: &[u32], v: [i64; 4], out: &mut [u32]) -> Written
+// The calls that write a result, by families.
+fn call_logical(index: u64, x: &[u32], y: &[u32], z: &[u32], out: &mut [u32]) -> Written
     ensures { λ r. ⌜ r .length ≤ length (now (out .exit)) ⌝ }
 {
     match index {
@@ -57,15 +59,39 @@ fn call(index: u64, x: &[u32], y: &[u32], z: &[u32], v: [i64; 4], out: &mut [u32
         2 => limbs::bitwise_and(x, y, out, 0),
         3 => limbs::bitwise_ior(x, y, out, 0),
         4 => limbs::bitwise_xor(x, y, out, 0),
-        5 => limbs::bitwise_if(x, y, z, out, 0),
+        _ => limbs::bitwise_if(x, y, z, out, 0),
+    }
+}
+
+fn call_shift(index: u64, x: &[u32], distance: i64, out: &mut [u32]) -> Written
+    ensures { λ r. ⌜ r .length ≤ length (now (out .exit)) ⌝ }
+{
+    match index {
+        13 => limbs::bitwise_shift(x, distance, out, 0),
+        14 => limbs::bitwise_shift_left(x, distance, out, 0),
+        _ => limbs::bitwise_shift_right(x, distance, out, 0),
+    }
+}
+
+fn call_field(index: u64, x: &[u32], y: &[u32], v: [i64; 4], out: &mut [u32]) -> Written
+    ensures { λ r. ⌜ r .length ≤ length (now (out .exit)) ⌝ }
+{
+    match index {
         10 => limbs::bitwise_copy_bit(x, v[1], v[2], out, 0),
         11 => limbs::bitwise_bit_field(x, v[1], v[2], out, 0),
         12 => limbs::bitwise_copy_bit_field(x, v[1], v[2], y, out, 0),
-        13 => limbs::bitwise_shift(x, v[1], out, 0),
-        14 => limbs::bitwise_shift_left(x, v[1], out, 0),
-        15 => limbs::bitwise_shift_right(x, v[1], out, 0),
         16 => limbs::bitwise_rotate(x, v[1], v[2], v[3], out, 0),
         _ => limbs::bitwise_reverse(x, v[1], v[2], out, 0),
+    }
+}
+
+fn call(index: u64, x: &[u32], y: &[u32], z: &[u32], v: [i64; 4], out: &mut [u32]) -> Written
+    ensures { λ r. ⌜ r .length ≤ length (now (out .exit)) ⌝ }
+{
+    match index {
+        1..=5 => call_logical(index, x, y, z, out),
+        13..=15 => call_shift(index, x, v[1], out),
+        _ => call_field(index, x, y, v, out),
     }
 }
 
@@ -96,23 +122,6 @@ fn answer_call(index: u64, x: &[u32], y: &[u32], z: &[u32], v: [i64; 4]) {
         print_limbs(&mut out[..n]);
     } else {
         explain_bitwise(index, v, answer.refusal);
-    }
-}
-
-// The numbers of a call, each at its place among the arguments; the places of operands hold 0. Not `good` where a word was wrong, and that has been said.
-struct Numbers {
-    good: bool,
-    values: [i64; 4],
-}
-
-// The first so many words from word 4 on.
-fn take_numbers(count: u64) -> Numbers {
-    let a = number_if(0 < count, 4);
-    let b = number_if(a.good && 1 < count, 5);
-    let c = number_if(b.good && 2 < count, 6);
-    Numbers {
-        good: a.good && b.good && c.good,
-        values: [0, a.value, b.value, c.value],
     }
 }
 
@@ -152,23 +161,36 @@ fn answer_operands(index: u64, v: [i64; 4]) {
     answer_call(index, &x[..i], &y[..j], &z[..k], v);
 }
 
+// The operation that word 2 names, or 0 where it names none, or where there are not as many words after it as it takes arguments. That is reported.
+fn operation() -> u64 {
+    let index = line_of(2, &BITWISE);
+    let needed = arity(index);
+    if index == 0 {
+        usage_error(
+            2,
+            b"a bitwise operation, such as bitwise-and (ql ops lists them),",
+        );
+        0
+    } else if words_from(3) < needed {
+        usage_error(os::arg_count(), b"another argument");
+        0
+    } else if needed < words_from(3) {
+        usage_error(3 + needed, b"the end of the arguments");
+        0
+    } else {
+        index
+    }
+}
+
 pub fn run() {
-    let index = bitwise_operation(2);
+    let index = operation();
     if index == 0 {
         return;
     }
-    let needed = arity(index);
-    if words_from(3) < needed {
-        complain(os::arg_count(), b"another argument");
-        return;
-    }
-    if needed < words_from(3) {
-        complain(3 + needed, b"the end of the arguments");
-        return;
-    }
-    let given = take_numbers(numbers_of(index));
+    // The numbers follow the first operand, and each stands at its place among the arguments.
+    let given = numbers_from(4, numbers_of(index));
     let v = given.values;
     if given.good {
-        answer_operands(index, v);
+        answer_operands(index, [0, v[0], v[1], v[2]]);
     }
 }

@@ -19,7 +19,7 @@ pub fn arity(index: u64) -> usize
 }
 
 // How many of them are numbers and not operands. They follow the first operand.
-pub fn numbers_of(index: u64) -> u64 {
+pub fn numbers_of(index: u64) -> usize {
     match index {
         9 | 13..=15 => 1,
         10..=12 | 17 => 2,
@@ -45,12 +45,12 @@ fn print_domain(index: u64) {
     }
 }
 
-// The number that is outside its domain.
-fn outside(index: u64, v: [i64; 4]) -> u64 {
+// The argument that is outside its domain, counted from 0.
+fn outside(index: u64, v: [i64; 4]) -> usize {
     match index {
-        10 => { if is_position(v[1], 32766) { 3 } else { 2 } }
+        10 => { if is_position(v[1], 32766) { 2 } else { 1 } }
         11 | 12 | 16 | 17 => outside_field(v[1], v[2], 32767),
-        _ => 2,
+        _ => 1,
     }
 }
 

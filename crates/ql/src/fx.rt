@@ -1,50 +1,36 @@
 // `ql fx`: one fixnum call.
-use super::argument::complain;
-use super::argument::number;
+use super::argument::width;
 use super::explain::explain;
-use super::request::Request;
-use super::request::ask;
+use super::request::answer;
 use super::request::take_request;
-use fixnum::Answer;
+use fxtable::answer::Answer;
+use fxtable::table::has_two_results;
 use output::print;
 use output::print_both;
-use words::sign::absolute;
 
-// Whether an operation has two results.
-pub fn has_two_results(code: u64) -> bool {
-    code == 18 || code == 21 || (22 <= code && code <= 24)
-}
-
-// The results of a done call, each in a line of its own.
-fn print_results(code: u64, answer: Answer) {
+// The results of a done call, with a text between two.
+pub fn print_results(code: u64, answer: Answer, between: &[u8]) {
     print_both(answer.first);
-    print(b"\n");
     if has_two_results(code) {
+        print(between);
         print_both(answer.second);
-        print(b"\n");
-    }
-}
-
-fn answer_request(width: u64, request: Request) {
-    let answer = ask(width, request);
-    if answer.refusal == 0 {
-        print_results(request.code, answer);
-    } else {
-        explain(width, request, answer.refusal);
     }
 }
 
 pub fn run() {
-    let width = number(2);
+    let width = width(2);
     if !width.good {
         return;
     }
-    if width.value < 0 {
-        complain(2, b"a width from 24 to 62");
+    let request = take_request(3);
+    if !request.good {
         return;
     }
-    let given = take_request(3);
-    if given.good {
-        answer_request(absolute(width.value), given);
+    let answer = answer(width.value, request);
+    if answer.refusal == 0 {
+        print_results(request.code, answer, b"\n");
+        print(b"\n");
+    } else {
+        explain(width.value, request, answer.refusal);
     }
 }

@@ -1,24 +1,34 @@
 // `ql list`: rotate and reverse calls on one field, one after the other.
-use super::argument::complain;
-use super::argument::is_word;
-use super::argument::number;
+use super::argument::line_of;
+use super::argument::number_if;
 use super::argument::print_word;
-use super::argument::rotation;
+use super::argument::read_after;
+use super::argument::usage_error;
+use super::argument::width;
 use super::explain::explain;
+use super::names::fixnum_code;
 use super::request::Request;
-use super::request::ask;
+use super::request::answer;
 use net::after_reverse;
 use net::after_rotate;
 use output::print;
 use output::print_both;
 use output::print_decimal;
 use output::print_natural;
+use text::Reading;
 use words::sign::absolute;
 
 struct Field {
     width: u64,
     start: i64,
     end: i64,
+}
+
+// A reversal, or a rotation by a count. Not `good` where a word was neither, and that has been reported.
+struct Call {
+    good: bool,
+    reverse: bool,
+    count: i64,
 }
 
 // What the calls have come to: the number, the net count, and whether an odd number of reversals was done.
@@ -28,90 +38,82 @@ struct State {
     odd: bool,
 }
 
-fn rotate_request(field: Field, x: i64, count: i64) -> Request {
-    Request {
-        good: true,
-        code: 40,
-        args: [x, field.start, field.end, count],
-        count: 4,
+// The call that a word is.
+fn call_of(i: usize) -> Call {
+    if line_of(i, b"rev") == 1 {
+        return Call {
+            good: true,
+            reverse: true,
+            count: 0,
+        };
+    }
+    match read_after(i, b"rot:") {
+        Reading::Number(count) => Call {
+            good: true,
+            reverse: false,
+            count,
+        },
+        _ => {
+            usage_error(i, b"rev, or rot: and a count, such as rot:3,");
+            Call {
+                good: false,
+                reverse: false,
+                count: 0,
+            }
+        }
     }
 }
 
-fn reverse_request(field: Field, x: i64) -> Request {
+// A call on the field of a number. A reversal takes no count.
+fn request_of(field: Field, x: i64, call: Call) -> Request {
+    let code = if call.reverse {
+        fixnum_code(b"fxreverse-bit-field")
+    } else {
+        fixnum_code(b"fxrotate-bit-field")
+    };
     Request {
         good: true,
-        code: 41,
-        args: [x, field.start, field.end, 0],
-        count: 3,
+        code,
+        args: [x, field.start, field.end, call.count],
+        count: if call.reverse { 3 } else { 4 },
     }
 }
 
-// A number as a position: 0 where it is negative.
-fn position(n: i64) -> u64 {
-    if n < 0 { 0 } else { absolute(n) }
-}
-
-// How many positions the field has.
+// How many positions a field has, whose start and end are not negative.
 fn size_of(field: Field) -> u64 {
-    let start = position(field.start);
-    let end = position(field.end);
+    let start = absolute(field.start);
+    let end = absolute(field.end);
     if start < end { end - start } else { 0 }
 }
 
 // One call that is done or refused; the line says which.
-fn reverse_step(field: Field, state: State) -> State {
-    let request = reverse_request(field, state.number);
-    let answer = ask(field.width, request);
+fn step(field: Field, state: State, call: Call) -> State {
+    let request = request_of(field, state.number, call);
+    let answer = answer(field.width, request);
     if answer.refusal != 0 {
         explain(field.width, request, answer.refusal);
         return state;
     }
     print_both(answer.first);
     print(b"\n");
-    State {
-        number: answer.first,
-        net: after_reverse(size_of(field), state.net),
-        odd: !state.odd,
-    }
-}
-
-fn rotate_step(field: Field, state: State, count: i64) -> State {
-    let request = rotate_request(field, state.number, count);
-    let answer = ask(field.width, request);
-    if answer.refusal != 0 {
-        explain(field.width, request, answer.refusal);
-        return state;
-    }
-    print_both(answer.first);
-    print(b"\n");
-    State {
-        number: answer.first,
-        net: after_rotate(size_of(field), state.net, absolute(count)),
-        odd: state.odd,
-    }
-}
-
-// The call that a word is.
-fn step(field: Field, state: State, i: usize) -> State {
-    print_word(1, i);
-    print(b": ");
-    if is_word(i, b"rev") {
-        reverse_step(field, state)
+    let net = if call.reverse {
+        after_reverse(size_of(field), state.net)
     } else {
-        rotate_step(field, state, rotation(i).value)
+        after_rotate(size_of(field), state.net, absolute(call.count))
+    };
+    State {
+        number: answer.first,
+        net,
+        odd: state.odd != call.reverse,
     }
 }
 
-fn is_call(i: usize) -> bool {
-    is_word(i, b"rev") || rotation(i).good
-}
-
-// Whether all words from word 6 on are calls. The first that is none is named.
+// Whether all words from word 6 on are calls. The first that is none is reported.
 fn are_calls() -> bool {
     let n = os::arg_count();
     let mut i = 6;
     while i < n {
-        if !is_call(i) {
+        if !call_of(i).good {
             return false;
         }
         i += 1;
@@ -124,6 +126,21 @@ fn print_field(field: Field) {
     print_decimal(field.start);
     print(b" ");
     print_decimal(field.end);
+}
+
+const REVERSAL: Call = Call {
+    good: true,
+    reverse: true,
+    count: 0,
+};
+
+// The number, or its field reversed.
+fn turned(field: Field, x: i64, odd: bool) -> i64 {
+    if odd {
+        answer(field.width, request_of(field, x, REVERSAL)).first
+    } else {
+        x
+    }
 }
 
 // `(fxreverse-bit-field 4660 4 12)`, or the number alone.
@@ -146,17 +163,13 @@ fn print_rotation(field: Field, x: i64, state: State) {
     print(b" ");
     print_natural(state.net);
     print(b") is ");
-    let turned = if state.odd {
-        ask(field.width, reverse_request(field, x)).first
-    } else {
-        x
+    let rotation = Call {
+        good: true,
+        reverse: false,
+        count: (state.net % 64) as i64,
     };
-    print_both(
-        ask(
-            field.width,
-            rotate_request(field, turned, (state.net % 64) as i64),
-        ).first,
-    );
+    let request = request_of(field, turned(field, x, state.odd), rotation);
+    print_both(answer(field.width, request).first);
     print(b"\n");
 }
 
@@ -184,7 +197,9 @@ fn run_calls(field: Field, x: i64) {
     };
     let mut i = 6;
     while i < n {
-        state = step(field, state, i);
+        print_word(1, i);
+        print(b": ");
+        state = step(field, state, call_of(i));
         i += 1;
     }
     print_end(field, x, state);
@@ -192,8 +207,8 @@ fn run_calls(field: Field, x: i64) {
 
 // Whether the width, the number and the field are good: the reversal of the field says so. Where they are not, the line says why.
 fn is_field(field: Field, x: i64) -> bool {
-    let request = reverse_request(field, x);
-    let refusal = ask(field.width, request).refusal;
+    let request = request_of(field, x, REVERSAL);
+    let refusal = answer(field.width, request).refusal;
     if refusal != 0 {
         explain(field.width, request, refusal);
     }
@@ -201,28 +216,24 @@ fn is_field(field: Field, x: i64) -> bool {
 }
 
 pub fn run() {
-    let width = number(2);
+    let width = width(2);
     if !width.good {
         return;
     }
-    if width.value < 0 {
-        complain(2, b"a width from 24 to 62");
-        return;
-    }
-    let start = number(3);
+    let start = number_if(true, 3);
     if !start.good {
         return;
     }
-    let end = number(4);
+    let end = number_if(true, 4);
     if !end.good {
         return;
     }
-    let x = number(5);
+    let x = number_if(true, 5);
     if !x.good {
         return;
     }
     let field = Field {
-        width: absolute(width.value),
+        width: width.value,
         start: start.value,
         end: end.value,
     };

@@ -11,26 +11,26 @@ mod request;
 mod usage;
 mod widths;
 
-use argument::complain;
-use argument::is_given;
-use argument::is_word;
+use argument::line_of;
+use argument::usage_error;
+use argument::words_from;
 use usage::print_usage;
 
 fn main() {
-    if !is_given(1) || is_word(1, b"help") || is_word(1, b"--help") {
-        print_usage(1);
-    } else if is_word(1, b"fx") {
-        fx::run();
-    } else if is_word(1, b"widths") {
-        widths::run();
-    } else if is_word(1, b"bitwise") {
-        bitwise::run();
-    } else if is_word(1, b"list") {
-        list::run();
-    } else if is_word(1, b"ops") {
-        ops::run();
-    } else {
-        complain(1, b"fx, widths, bitwise, list or ops");
-        print_usage(2);
+    match line_of(1, b"fx\nwidths\nbitwise\nlist\nops\nhelp\n--help") {
+        1 => fx::run(),
+        2 => widths::run(),
+        3 => bitwise::run(),
+        4 => list::run(),
+        5 => ops::run(),
+        6 | 7 => print_usage(1),
+        _ => {
+            if words_from(1) == 0 {
+                print_usage(1);
+            } else {
+                usage_error(1, b"fx, widths, bitwise, list or ops");
+                print_usage(2);
+            }
+        }
     }
 }

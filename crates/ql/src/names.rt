@@ -1,153 +1,69 @@
-// The R6RS names of the operations.
-ghost use Rattle.io.specs.Counts.{Counts};
+// The operations by name, and the one search through a list of names.
+ghost use Prim.Native.Nat.{_≤_};
+ghost use lib.ListN.{length};
+use output::print;
 
-// Copies a text to the start of out, as far as both go, and answers how many bytes that is.
-fn put(text: &[u8], out: &mut [u8]) -> usize
-    ensures { λ r. ⌜ Counts r (now (out .exit)) ⌝ }
-{
-    let mut i = 0;
-    while i < text.len() {
-        if out.len() <= i {
-            break;
-        }
-        out[i] = text[i];
-        i += 1;
-    }
-    i
-}
+// The fixnum operations in the order of their codes: a line has a name and its arguments.
+pub const FIXNUM: [u8; 660] = *b"fx=? x y ..
+fx>? x y ..
+fx<? x y ..
+fx>=? x y ..
+fx<=? x y ..
+fxzero? x
+fxpositive? x
+fxnegative? x
+fxodd? x
+fxeven? x
+fxmax x ..
+fxmin x ..
+fx+ x y
+fx* x y
+fx- x, or x y
+fxdiv x y
+fxmod x y
+fxdiv-and-mod x y
+fxdiv0 x y
+fxmod0 x y
+fxdiv0-and-mod0 x y
+fx+/carry x y z
+fx-/carry x y z
+fx*/carry x y z
+fxnot x
+fxand ..
+fxior ..
+fxxor ..
+fxif x y z
+fxbit-count x
+fxlength x
+fxfirst-bit-set x
+fxbit-set? x position
+fxcopy-bit x position bit
+fxbit-field x start end
+fxcopy-bit-field x start end y
+fxarithmetic-shift x distance
+fxarithmetic-shift-left x distance
+fxarithmetic-shift-right x distance
+fxrotate-bit-field x start end count
+fxreverse-bit-field x start end";
 
-// The names by families: a function for each, since a `match` of 41 texts takes minutes to check.
-fn comparison_name(code: u64, out: &mut [u8]) -> usize
-    ensures { λ r. ⌜ Counts r (now (out .exit)) ⌝ }
-{
-    match code {
-        1 => put(b"fx=?", out),
-        2 => put(b"fx>?", out),
-        3 => put(b"fx<?", out),
-        4 => put(b"fx>=?", out),
-        5 => put(b"fx<=?", out),
-        6 => put(b"fxzero?", out),
-        7 => put(b"fxpositive?", out),
-        8 => put(b"fxnegative?", out),
-        9 => put(b"fxodd?", out),
-        _ => put(b"fxeven?", out),
-    }
-}
-
-fn arithmetic_name(code: u64, out: &mut [u8]) -> usize
-    ensures { λ r. ⌜ Counts r (now (out .exit)) ⌝ }
-{
-    match code {
-        11 => put(b"fxmax", out),
-        12 => put(b"fxmin", out),
-        13 => put(b"fx+", out),
-        14 => put(b"fx*", out),
-        _ => put(b"fx-", out),
-    }
-}
-
-fn division_name(code: u64, out: &mut [u8]) -> usize
-    ensures { λ r. ⌜ Counts r (now (out .exit)) ⌝ }
-{
-    match code {
-        16 => put(b"fxdiv", out),
-        17 => put(b"fxmod", out),
-        18 => put(b"fxdiv-and-mod", out),
-        19 => put(b"fxdiv0", out),
-        20 => put(b"fxmod0", out),
-        21 => put(b"fxdiv0-and-mod0", out),
-        22 => put(b"fx+/carry", out),
-        23 => put(b"fx-/carry", out),
-        _ => put(b"fx*/carry", out),
-    }
-}
-
-fn logical_name(code: u64, out: &mut [u8]) -> usize
-    ensures { λ r. ⌜ Counts r (now (out .exit)) ⌝ }
-{
-    match code {
-        25 => put(b"fxnot", out),
-        26 => put(b"fxand", out),
-        27 => put(b"fxior", out),
-        28 => put(b"fxxor", out),
-        29 => put(b"fxif", out),
-        30 => put(b"fxbit-count", out),
-        31 => put(b"fxlength", out),
-        32 => put(b"fxfirst-bit-set", out),
-        _ => put(b"fxbit-set?", out),
-    }
-}
-
-fn field_name(code: u64, out: &mut [u8]) -> usize
-    ensures { λ r. ⌜ Counts r (now (out .exit)) ⌝ }
-{
-    match code {
-        34 => put(b"fxcopy-bit", out),
-        35 => put(b"fxbit-field", out),
-        36 => put(b"fxcopy-bit-field", out),
-        37 => put(b"fxarithmetic-shift", out),
-        38 => put(b"fxarithmetic-shift-left", out),
-        39 => put(b"fxarithmetic-shift-right", out),
-        40 => put(b"fxrotate-bit-field", out),
-        _ => put(b"fxreverse-bit-field", out),
-    }
-}
-
-// Puts the name of the fixnum operation with a code at the start of out, and answers its length: 0 where no operation has it.
-pub fn fixnum_name(code: u64, out: &mut [u8]) -> usize
-    ensures { λ r. ⌜ Counts r (now (out .exit)) ⌝ }
-{
-    match code {
-        1..=10 => comparison_name(code, out),
-        11..=15 => arithmetic_name(code, out),
-        16..=24 => division_name(code, out),
-        25..=33 => logical_name(code, out),
-        34..=41 => field_name(code, out),
-        _ => 0,
-    }
-}
-
-fn bitwise_logical_name(index: u64, out: &mut [u8]) -> usize
-    ensures { λ r. ⌜ Counts r (now (out .exit)) ⌝ }
-{
-    match index {
-        1 => put(b"bitwise-not", out),
-        2 => put(b"bitwise-and", out),
-        3 => put(b"bitwise-ior", out),
-        4 => put(b"bitwise-xor", out),
-        5 => put(b"bitwise-if", out),
-        6 => put(b"bitwise-bit-count", out),
-        7 => put(b"bitwise-length", out),
-        8 => put(b"bitwise-first-bit-set", out),
-        _ => put(b"bitwise-bit-set?", out),
-    }
-}
-
-fn bitwise_field_name(index: u64, out: &mut [u8]) -> usize
-    ensures { λ r. ⌜ Counts r (now (out .exit)) ⌝ }
-{
-    match index {
-        10 => put(b"bitwise-copy-bit", out),
-        11 => put(b"bitwise-bit-field", out),
-        12 => put(b"bitwise-copy-bit-field", out),
-        13 => put(b"bitwise-arithmetic-shift", out),
-        14 => put(b"bitwise-arithmetic-shift-left", out),
-        15 => put(b"bitwise-arithmetic-shift-right", out),
-        16 => put(b"bitwise-rotate-bit-field", out),
-        _ => put(b"bitwise-reverse-bit-field", out),
-    }
-}
-
-// The same for the bitwise operations, which have no codes of their own: here they are counted from 1, in R6RS's order.
-pub fn bitwise_name(index: u64, out: &mut [u8]) -> usize
-    ensures { λ r. ⌜ Counts r (now (out .exit)) ⌝ }
-{
-    match index {
-        1..=9 => bitwise_logical_name(index, out),
-        10..=17 => bitwise_field_name(index, out),
-        _ => 0,
-    }
-}
+// The bitwise operations have no codes: here they are counted from 1, in R6RS's order.
+pub const BITWISE: [u8; 466] = *b"bitwise-not x
+bitwise-and x y
+bitwise-ior x y
+bitwise-xor x y
+bitwise-if x y z
+bitwise-bit-count x
+bitwise-length x
+bitwise-first-bit-set x
+bitwise-bit-set? x position
+bitwise-copy-bit x position bit
+bitwise-bit-field x start end
+bitwise-copy-bit-field x start end y
+bitwise-arithmetic-shift x distance
+bitwise-arithmetic-shift-left x distance
+bitwise-arithmetic-shift-right x distance
+bitwise-rotate-bit-field x start end count
+bitwise-reverse-bit-field x start end";
 
 // Whether two texts are the same.
 pub fn same(a: &[u8], b: &[u8]) -> bool {
@@ -164,38 +80,79 @@ pub fn same(a: &[u8], b: &[u8]) -> bool {
     true
 }
 
-fn is_fixnum_name(code: u64, word: &[u8]) -> bool {
-    let mut name = io::buffer();
-    let n = fixnum_name(code, &mut name);
-    same(word, &name[..n])
+// How many bytes of a text stand before the first that is `end`: all where none is.
+fn count_before(text: &[u8], end: u8) -> usize
+    ensures { λ r. ⌜ r ≤ length (now (text .entry)) ⌝ }
+{
+    let mut i = 0;
+    while i < text.len() {
+        if text[i] == end {
+            return i;
+        }
+        i += 1;
+    }
+    i
 }
 
-fn is_bitwise_name(index: u64, word: &[u8]) -> bool {
-    let mut name = io::buffer();
-    let n = bitwise_name(index, &mut name);
-    same(word, &name[..n])
+// A line of a table, counted from 1: where it begins, where its name ends and where it ends. Line 0 where there is none.
+pub struct Line {
+    pub number: u64,
+    pub start: usize,
+    pub name_end: usize,
+    pub end: usize,
+}
+
+// The first line that has a number, or a word for its name.
+pub fn find(table: &[u8], number: u64, word: &[u8]) -> Line
+    ensures { λ r. ⌜ (r .start ≤ r .«name_end») × (r .«name_end» ≤ r .end) ⌝ }
+    ensures { λ r. ⌜ r .end ≤ length (now (table .entry)) ⌝ }
+{
+    let mut passed = 0;
+    let mut start = 0;
+    while start < table.len() {
+        let rest = &table[start..];
+        let n = count_before(rest, b'\n');
+        let name = count_before(&rest[..n], b' ');
+        if passed + 1 == number || same(word, &rest[..name]) {
+            return Line {
+                number: passed + 1,
+                start,
+                name_end: start + name,
+                end: start + n,
+            };
+        }
+        if rest.len() <= n {
+            break;
+        }
+        start = start + n + 1;
+        passed += 1;
+    }
+    Line {
+        number: 0,
+        start: 0,
+        name_end: 0,
+        end: 0,
+    }
 }
 
 // The code of the fixnum operation with a name, or 0.
-pub fn fixnum_code(word: &[u8]) -> u64 {
-    let mut code = 1;
-    while code <= 41 {
-        if is_fixnum_name(code, word) {
-            return code;
-        }
-        code += 1;
-    }
-    0
+pub fn fixnum_code(name: &[u8]) -> u64 {
+    find(&FIXNUM, 0, name).number
 }
 
-// The index of the bitwise operation with a name, or 0.
-pub fn bitwise_index(word: &[u8]) -> u64 {
-    let mut index = 1;
-    while index <= 17 {
-        if is_bitwise_name(index, word) {
-            return index;
-        }
-        index += 1;
-    }
-    0
+// Prints the name in a line, and answers how long it is.
+pub fn print_name(table: &[u8], number: u64) -> usize {
+    let line = find(table, number, b"");
+    let start = line.start;
+    let end = line.name_end;
+    print(&table[start..end]);
+    end - start
+}
+
+// Prints the arguments in a line, with the blank in front.
+pub fn print_arguments(table: &[u8], number: u64) {
+    let line = find(table, number, b"");
+    let start = line.name_end;
+    let end = line.end;
+    print(&table[start..end]);
 }

@@ -4,10 +4,10 @@ ghost use mathlib.Core.Path.{_≡_};
 ghost use mathlib.Core.Bool.{_&&_, _||_, xor};
 ghost use mathlib.Core.List.{[], _∷_};
 ghost use Rattle.convert.specs.Convert.{toFixnumOutcome, toLimbsOutcome};
-ghost use Rattle.fixnum.specs.Calls.{fixnumAnswer};
+ghost use Rattle.fxtable.specs.Calls.{fixnumAnswer};
 ghost use Rattle.limbs.specs.Buffer.{Writes, number};
 ghost use Rattle.limbs.specs.Operations.{notOutcome, bitwiseOutcome, ifOutcome, copyBitOutcome, bitFieldOutcome, copyBitFieldOutcome, shiftOutcome, shiftLeftOutcome, shiftRightOutcome, rotateOutcome, reverseOutcome, bitCountOutcome, lengthOutcome, firstBitSetOutcome, bitSetOutcome};
-use fixnum::Answer;
+use fxtable::answer::Answer;
 use limbs::Number;
 use limbs::Written;
 

@@ -12,10 +12,13 @@ use borrow.Author.Tests.{lt-ltb, le-ltb, le-leb, ltb-true, leb-true}
 use borrow.Rule.Slice.PartAt.{part-to-end}
 use borrow.Rule.Slice.PartMut.{putMid}
 use Rattle.bits.specs.Testbit.{isNegative}
+use Rattle.outcomes.specs.Outcome.{Outcome, done}
+use Rattle.outcomes.specs.Buffer.{laid, afterwards, countOf}
+use Rattle.outcomes.proofs.OutcomeLaws.{passed, failed}
 use Rattle.limbwords.specs.Value.{value, limbsOf}
 use Rattle.limbwords.proofs.LimbLaws.{sign-last}
 use Rattle.text.specs.Numerals.{digits, hexLength, spelled}
-use Rattle.text.specs.Spellings.{natural, hasRoom, written, Spells}
+use Rattle.text.specs.Spellings.{natural, hasRoom, spelling, Spells}
 use Rattle.text.proofs.SpellNatural.{natural-nonnegative, natural-negative}
 use Rattle.text.proofs.SpellDigits.{length-digits}
 
@@ -79,8 +82,8 @@ module _ (xs out : List ℕ) where
       go false c p q = refl
 
   pub spells-none : (0 < length xs → 8 * length xs + 3 ≤ length out → ⊥) → Spells xs out 0 out
-  unfolding written
-  spells-none h = let e = no-room h in record { count = rw e refl; buffer = rw e refl }
+  unfolding spelling countOf afterwards
+  spells-none h = let e = failed 8 (done (spelled (value xs))) (no-room h) in record { count = rw e refl; buffer = rw e refl }
 
   -- 0x and the digits of n, the absolute value, after a sign or none
   module _ (negative : Bool) (n r : ℕ) (out′ : List ℕ) where
@@ -88,18 +91,29 @@ module _ (xs out : List ℕ) where
         → r ≡ length (dash negative) + (hexLength n + 2)
         → out′ ≡ dash negative ++ (hexadecimal n ++ drop r out)
         → Spells xs out r out′
-    unfolding written spelled
+    unfolding spelling spelled countOf afterwards laid
     spells h l signed absolute counted put = record {
-      count = counted ∙ sym (ap length is-written ∙ length-append (dash negative) (hexadecimal n) ∙ ap (λ (k : ℕ). length (dash negative) + k) length-hexadecimal);
-      buffer = put ∙ sym (ap (λ (t : List ℕ). t ++ drop r out) is-written ∙ append-assoc (dash negative) (hexadecimal n) (drop r out));
+      count = long ∙ sym (ap countOf is-spelling);
+      buffer =
+          put
+          ∙ sym (append-assoc (dash negative) (hexadecimal n) (drop r out))
+          ∙ ap (λ (k : ℕ). text ++ drop k out) from-start
+          ∙ sym (ap (λ (o : Outcome (List ℕ)). afterwards o out 0) is-spelling);
     }
       where
-        is-written : written xs out ≡ dash negative ++ hexadecimal n
-        is-written =
-            rw (enough-room h l) (ap₂ (λ (s : Bool) (m : ℕ). dash s ++ hexadecimal m) signed (sym absolute))
+        text : List ℕ
+        text = dash negative ++ hexadecimal n
 
-        length-hexadecimal : length (hexadecimal n) ≡ hexLength n + 2
-        length-hexadecimal = omega (arith, length-digits 16 (hexLength n) n)
+        is-spelling : spelling xs out ≡ done text
+        is-spelling =
+            passed 8 (done (spelled (value xs))) (enough-room h l)
+            ∙ ap₂ (λ (s : Bool) (m : ℕ). done (dash s ++ hexadecimal m)) signed (sym absolute)
+
+        long : r ≡ length text
+        long = omega (arith, counted, length-append (dash negative) (hexadecimal n), length-digits 16 (hexLength n) n)
+
+        from-start : r ≡ 0 + length text
+        from-start = omega (arith, long)
 
 -- ---- by the last limb
 

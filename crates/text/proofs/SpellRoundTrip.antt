@@ -8,19 +8,22 @@ use mathlib.Core.Bool.{Bool, true, false, cond, _&&_}
 use mathlib.Core.List.{List, [], _∷_, _++_}
 use lib.Dec.{ltb, lit<}
 use lib.IntN.{ℤ, pos, natAbs}
-use lib.ListN.{length, take, drop}
-use lib.Seq.{take-append-seam}
+use lib.ListN.{length, take}
 use borrow.Author.Tests.{lt-ltb, le-leb, ltb-true, ltb-false}
 use Rattle.bits.specs.Testbit.{isNegative, fits}
 use Rattle.words.specs.Sign.{withSign}
 use Rattle.bits.proofs.LengthLaws.{mag-lt}
 use Rattle.words.proofs.SignedLaws.{withSign-natAbs}
+use Rattle.outcomes.specs.Outcome.{Outcome, done}
+use Rattle.outcomes.specs.Buffer.{afterwards, countOf}
+use Rattle.outcomes.proofs.OutcomeLaws.{passed}
+use Rattle.outcomes.proofs.BufferLaws.{laid-copy}
 use Rattle.limbwords.specs.Value.{value, limbCount}
 use Rattle.text.specs.Numerals.{digit, areDigits, numeralFrom, numeral, byteAt, isMinus, afterSign, isPrefix, isHex, base, digitsFrom, isInteger, integer, glyph, digits, hexLength, spelled}
 use Rattle.text.specs.declared.Reading.{Reading}
 use Rattle.text.specs.declared.LimbReading.{LimbReading}
 use Rattle.text.specs.Readings.{reading, enough, limbReading}
-use Rattle.text.specs.Spellings.{hasRoom, written, Spells}
+use Rattle.text.specs.Spellings.{hasRoom, spelling, Spells}
 use Rattle.text.proofs.NumeralLaws.{digit-decimal, digit-lower, pow-hex, areDigits-append, numeral-append}
 use Rattle.text.proofs.SpellDigits.{length-digits}
 use Rattle.text.proofs.SpellBuffer.{dash}
@@ -108,15 +111,16 @@ integer-spelled z =
 -- what spelling puts at the start of a buffer
 pub read-back : (xs out : List ℕ) (r : ℕ) (out′ : List ℕ) → Spells xs out r out′ → hasRoom xs out ≡ true
     → (isInteger (take r out′) ≡ true) × (integer (take r out′) ≡ value xs)
-unfolding written
+unfolding spelling countOf afterwards
 read-back xs out r out′ s h = (ap isInteger put ∙ isInteger-spelled (value xs), ap integer put ∙ integer-spelled (value xs))
   where
-    text-is : written xs out ≡ spelled (value xs)
-    text-is = rw h
+    is-spelling : spelling xs out ≡ done (spelled (value xs))
+    is-spelling = passed 8 (done (spelled (value xs))) h
 
     put : take r out′ ≡ spelled (value xs)
     put =
-        ap₂ take (s .count) (s .buffer) ∙ take-append-seam (written xs out) (drop r out) ∙ text-is
+        ap₂ take (s .count ∙ ap countOf is-spelling) (s .buffer ∙ ap (λ (o : Outcome (List ℕ)). afterwards o out 0) is-spelling)
+        ∙ laid-copy out 0 (spelled (value xs)) (omega arith)
 
 -- ---- what the calls that read answer for it
 

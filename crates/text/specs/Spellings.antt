@@ -1,13 +1,16 @@
 -- What spelling an integer answers.
 --   natural xs           ==  the number that limbs are without a sign
 --   hasRoom xs out       ==  whether there is a limb, and eight bytes for each limb and three more
---   Spells xs out r out′ ==  r bytes, the text of the integer, are now at the start of the buffer; none where there is no room
+--   spelling xs out      ==  the text of the integer; refusal 8 where there is no room
+--   Spells xs out r out′ ==  r counts the bytes of that text, and they are now at the start of the buffer
 use Prim.Native.Nat.{ℕ, _+_, _*_, _^_}
 use mathlib.Core.Path.{_≡_}
-use mathlib.Core.Bool.{Bool, cond, _&&_}
-use mathlib.Core.List.{List, [], _∷_, _++_}
+use mathlib.Core.Bool.{Bool, _&&_}
+use mathlib.Core.List.{List, [], _∷_}
 use lib.Dec.{leb, ltb}
-use lib.ListN.{length, drop}
+use lib.ListN.{length}
+use Rattle.outcomes.specs.Outcome.{Outcome, done, guard}
+use Rattle.outcomes.specs.Buffer.{afterwards, countOf}
 use Rattle.limbwords.specs.Value.{value}
 use Rattle.text.specs.Numerals.{spelled}
 
@@ -18,9 +21,9 @@ natural (n ∷ ns) = n + 2 ^ 32 * natural ns
 unfoldable pub hasRoom : List ℕ → List ℕ → Bool
 hasRoom xs out = ltb 0 (length xs) && leb (8 * length xs + 3) (length out)
 
-unfoldable pub written : List ℕ → List ℕ → List ℕ
-written xs out = cond (hasRoom xs out) (spelled (value xs)) []
+unfoldable pub spelling : List ℕ → List ℕ → Outcome (List ℕ)
+spelling xs out = guard (hasRoom xs out) 8 (done (spelled (value xs)))
 
 pub record Spells (xs out : List ℕ) (r : ℕ) (out′ : List ℕ) : Type 0 where
-  pub count : r ≡ length (written xs out)
-  pub buffer : out′ ≡ written xs out ++ drop r out
+  pub count : r ≡ countOf (spelling xs out)
+  pub buffer : out′ ≡ afterwards (spelling xs out) out 0

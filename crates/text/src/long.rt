@@ -18,8 +18,7 @@ use super::form::is_integer;
 use super::form::take_apart;
 use super::negate::negate;
 use super::word::sum_digits;
-use limbwords::measure::measure_common;
-use limbwords::result::Logic;
+use limbwords::measure::shortest_length;
 
 // Up to eight hexadecimal digits as a limb.
 fn digits_limb(digits: &[u8]) -> u32
@@ -59,14 +58,6 @@ fn put_word(n: u64, out: &mut [u32])
     out[0] = (n % 0x1_0000_0000) as u32;
     out[1] = (n / 0x1_0000_0000) as u32;
     out[2] = 0;
-}
-
-// How many limbs the integer has in its shortest form: it is measured as x and x.
-fn shortest_length(x: &[u32]) -> usize
-    requires { ⌜ 0 < length (now x) ⌝ }
-    ensures { λ r. ⌜ r ≡ limbCount (value (now (x .entry))) ⌝ }
-{
-    measure_common(Logic::And, x, x, x.len())
 }
 
 // The limbs of a natural number made those of the number with its sign. Answers the length of its shortest form.

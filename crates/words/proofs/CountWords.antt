@@ -46,10 +46,14 @@ pub count-ones : (n : ℕ) → digits.ones n ≡ ones n
 count-ones n =
     digits-onesBelow (bitLength (pos n)) n (mag-lt-bitLength (pos n)) ∙ sym (ones-onesBelow n (bitLength (pos n)) (le-refl (bitLength (pos n))))
 
-pub count-bitCount : (x : ℤ) → ofMagnitude (isNegative x) (digits.ones (mag x)) ≡ bitCount x
+-- the count is that of the magnitude, under the sign
+pub bitCount-mag : (x : ℤ) → ofMagnitude (isNegative x) (ones (mag x)) ≡ bitCount x
 unfolding bitCount ofMagnitude isNegative bitwiseNot
-count-bitCount (pos n) = ap pos (count-ones n)
-count-bitCount (negsuc n) = ap negsuc (count-ones n)
+bitCount-mag (pos n) = refl
+bitCount-mag (negsuc n) = refl
+
+pub count-bitCount : (x : ℤ) → ofMagnitude (isNegative x) (digits.ones (mag x)) ≡ bitCount x
+count-bitCount x = ap (ofMagnitude (isNegative x)) (count-ones (mag x)) ∙ bitCount-mag x
 
 -- ---- the length
 

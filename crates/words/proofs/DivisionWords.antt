@@ -3,7 +3,7 @@
 use mathlib.Core.Path.{_≡_, refl, sym, _∙_, ap, subst}
 use mathlib.Core.Logic.{_≢_}
 use mathlib.Core.Bool.{Bool, true, false, not, cond, xor}
-use Prim.Native.Nat.{ℕ, zero, suc, _+_, _*_, _-_, _/_, _%_, _^_, _≤_, _<_}
+use Prim.Native.Nat.{ℕ, zero, suc, _+_, _*_, _-_, _/_, _%_, _≤_, _<_}
 use native.Mathlib.Nat.{div-add-mod', mod-lt, lt-of-lt-of-le}
 use native.Mathlib.Omega.{arith}
 use lib.Dec.{T, leb, ltb, eqb, leb·zero, ltb→lt, leb→le}
@@ -15,6 +15,7 @@ use borrow.Author.Tests.{lt-ltb, le-leb, leb-true, leb-false, eqb-true, eqb-fals
 use Rattle.bits.specs.Testbit.{isNegative, fits}
 use Rattle.words.specs.Sign.{withSign}
 use Rattle.bits.specs.Division.{div, «mod», div0, mod0}
+use Rattle.bits.proofs.FitsLaws.{mag-fits}
 use Rattle.bits.proofs.Booleans.{all₂}
 use Rattle.bits.proofs.TestbitLaws.{by-lt}
 use Rattle.bits.proofs.IntegerLaws.{leZ-true, ltZ-true}
@@ -169,9 +170,8 @@ answer-remainder true s r b = refl
 answer-remainder false s r b = refl
 
 allowed-word : (nearest : Bool) (y m : ℤ) → SFits w64 y → Allowed nearest (natAbs y) m → fits 64 m ≡ true
-unfolding fits
 allowed-word nearest y m h a =
-    lt-ltb (mag m) (2 ^ 63) (lt-of-lt-of-le (allowed-mag nearest (natAbs y) m a) (natAbs-le y (h .sfits)))
+    mag-fits 64 m (lt-of-lt-of-le (allowed-mag nearest (natAbs y) m a) (natAbs-le y (h .sfits)))
 
 divided-by : (nearest up : Bool) (x y : ℤ) → SFits w64 y → 0 < natAbs y
     → Allowed nearest (natAbs y) (remainder up (isNegative x) (natAbs x % natAbs y) (natAbs y))

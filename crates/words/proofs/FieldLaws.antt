@@ -1,22 +1,23 @@
 -- What the words of a field operation are, said of integers. Assumes nothing.
-use Prim.Native.Nat.{ℕ, zero, suc, _+_, _*_, _-_, _/_, _%_, _<_, _≤_, _^_}
-use native.Mathlib.Nat.{mod-lt}
+use Prim.Native.Nat.{ℕ, suc, _+_, _*_, _-_, _/_, _%_, _<_, _≤_, _^_}
 use native.Mathlib.Omega.{arith}
 use mathlib.Core.Path.{_≡_, refl, sym, ap, ap₂, _∙_, subst}
-use mathlib.Core.Bool.{Bool, true, false, not}
-use lib.Dec.{eqb}
-use lib.Pow.{split}
-use lib.IntN.{ℤ, pos, negsuc}
+use mathlib.Core.Bool.{Bool, true, false}
+use lib.Dec.{eqb, lit<}
+use lib.Pow.{split, pow-pos}
+use lib.IntN.{ℤ, pos}
 use lib.Signed.{mag}
 use mir.Syntax.{w64}
 use mir.Val.{SFits, toZ, ofZ}
-use Rattle.bits.specs.Testbit.{odd, isNegative, testbit}
+use Rattle.bits.proofs.ModLaws.{modℕ-lt}
+use Rattle.bits.proofs.TestbitLaws.{testbit-digit, testbit-shiftRight}
+use Rattle.bits.specs.Testbit.{isNegative, testbit}
 use Rattle.words.specs.Sign.{ofMagnitude}
 use Rattle.bits.specs.Shift.{floorDiv, shiftRight}
 use Rattle.bits.specs.Division.{modℕ}
 use Rattle.bits.specs.Field.{copyBitField}
 use Rattle.words.proofs.MagnitudeLaws.{ofMagnitude-mag}
-use Rattle.words.proofs.FieldWords.{copyBitField-magnitude}
+use Rattle.words.proofs.FieldWords.{copyBitField-magnitude, testbit-modℕ-lt}
 use Rattle.bits.proofs.LengthBounds.{setField-lt}
 use Rattle.words.proofs.WordLaws.{back, mag-ofMagnitude}
 
@@ -47,16 +48,16 @@ pub low-nonnegative : {negative : Bool} (m k : ℕ) → negative ≡ false → m
 unfolding ofMagnitude modℕ
 low-nonnegative {negative} m k e = sym (ap (λ (b : Bool). modℕ (ofMagnitude b m) (2 ^ k)) e)
 
-complement-bit : (n : ℕ) → n < 2 → eqb (2 - suc n) 1 ≡ not (eqb n 1)
-complement-bit zero h = refl
-complement-bit (suc zero) h = refl
-complement-bit (suc (suc n)) h = absurd (omega arith)
-
 -- one bit, as a number
 pub one-bit : (x : ℤ) (k : ℕ) → eqb (modℕ (shiftRight x k) (2 ^ 1)) 1 ≡ testbit x k
-unfolding modℕ shiftRight floorDiv testbit odd
-one-bit (pos n) k = refl
-one-bit (negsuc n) k = complement-bit (n / 2 ^ k % 2) (mod-lt (n / 2 ^ k) (omega arith))
+one-bit x k =
+    let n = modℕ (shiftRight x k) (2 ^ 1) in
+    let digit : n / 2 ^ 0 % 2 ≡ n = omega (arith, modℕ-lt (shiftRight x k) (2 ^ 1) (pow-pos 1)) in
+    let same : k + 0 ≡ k = omega arith in
+    sym (testbit-digit n 0 ∙ ap (λ (d : ℕ). eqb d 1) digit)
+    ∙ testbit-modℕ-lt (shiftRight x k) 1 0 (lit< tt)
+    ∙ testbit-shiftRight x k 0
+    ∙ ap (testbit x) same
 
 -- ---- a field replaced
 

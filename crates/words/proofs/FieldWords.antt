@@ -6,17 +6,19 @@ use Prim.Native.Nat.{ℕ, suc, _+_, _*_, _-_, _/_, _%_, _^_, _≤_, _<_}
 use native.Mathlib.Nat.{mod-lt}
 use native.Mathlib.Omega.{arith}
 use lib.Arith.{digits-lt}
-use lib.Dec.{ltb, eqb, lt→ltb}
+use lib.Dec.{ltb, eqb}
 use lib.Pow.{pow-pos, pow-add, low, high}
 use lib.IntN.{ℤ, pos, negsuc}
 use lib.Signed.{mag}
 use borrow.Author.Tests.{lt-ltb, eq-eqb, ne-eqb}
-use Rattle.bits.specs.Testbit.{odd, testbit, fits, fill, ofBits}
+use Rattle.bits.proofs.ShiftLaws.{testbit-shiftLeft}
+use Rattle.bits.specs.Testbit.{odd, testbit, fill, ofBits}
 use Rattle.words.specs.Sign.{ofMagnitude}
 use Rattle.bits.specs.Logical.{bitwiseNot}
-use Rattle.bits.specs.Shift.{floorDiv, shiftRight}
+use Rattle.bits.specs.Shift.{floorDiv, shiftRight, shiftLeft}
 use Rattle.bits.specs.Division.{modℕ, mod0}
 use Rattle.bits.specs.Field.{inField, copyBitField, copyBit}
+use Rattle.bits.proofs.FitsLaws.{holds, mag-fits}
 use Rattle.bits.proofs.Booleans.{all₂}
 use Rattle.bits.proofs.TestbitLaws.{by-lt, testbit-ext, testbit-fill, testbit-ofBits, testbit-shiftRight}
 use Rattle.bits.proofs.LogicalLaws.{testbit-not}
@@ -38,6 +40,10 @@ testbit-mod-lt n = testbit-modℕ-lt (pos n)
 pub testbit-div : (n k i : ℕ) → testbit (pos (n / 2 ^ k)) i ≡ testbit (pos n) (k + i)
 unfolding shiftRight floorDiv
 testbit-div n = testbit-shiftRight (pos n)
+
+pub testbit-times : (n k i : ℕ) → testbit (pos (n * 2 ^ k)) i ≡ not (ltb i k) && testbit (pos n) (i - k)
+unfolding shiftLeft
+testbit-times n = testbit-shiftLeft (pos n)
 
 -- counted from bit 0 of n
 pub testbit-div-ge : (n k i : ℕ) → k ≤ i → testbit (pos (n / 2 ^ k)) (i - k) ≡ testbit (pos n) i
@@ -163,7 +169,7 @@ extend-copyBit negative x k = testbit-ext λ i.
 -- below the highest bit of its width a number has a bit replaced in place
 pub mod0-copyBit : (w : ℕ) (x : ℤ) (k : ℕ) (y : ℤ) → k < w - 1 → mag x < 2 ^ (w - 1)
     → mod0 (copyBit x k y) (pos (2 ^ w)) ≡ copyBitField x k (suc k) y
-unfolding copyBit copyBitField fits
+unfolding copyBit copyBitField
 mod0-copyBit w x k y h l =
     mod0-pow-same w (copyBit x k y) (omega arith)
-    (lt→ltb (mag (copyBit x k y)) (2 ^ (w - 1)) (setField-lt x k (suc k) (λ j. testbit y j) (w - 1) h l))
+    (holds (mag-fits w (copyBit x k y) (setField-lt x k (suc k) (λ j. testbit y j) (w - 1) h l)))

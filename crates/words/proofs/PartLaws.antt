@@ -18,7 +18,7 @@ use Rattle.bits.specs.Division.{div0, mod0}
 use Rattle.bits.proofs.DivisionLaws.{div0-mod0-unique}
 use Rattle.words.specs.declared.wide.Wide.{Wide}
 use Rattle.words.specs.Wide.{wideValue}
-use Rattle.bits.proofs.FitsLaws.{double}
+use Rattle.bits.proofs.FitsLaws.{mag-fits, double}
 use Rattle.words.proofs.WordLaws.{fits-mag, fits-negative, fits-nonnegative}
 use Rattle.words.proofs.WideLaws.{wide-absolute, wide-sign}
 use Rattle.words.proofs.SignedLaws.{natAbs-withSign, withSign-add, withSign-sub, withSign-times}
@@ -126,8 +126,7 @@ one-more true q h = omega arith
 one-more false q h = omega arith
 
 pub fits-wider : (w v : ℕ) (x : ℤ) → w ≤ v → fits w x ≡ true → fits v x ≡ true
-unfolding fits
-fits-wider w v x h t = lt-ltb (mag x) (2 ^ (v - 1)) (lt-of-lt-of-le (fits-mag w x t) (pow-mono (omega arith)))
+fits-wider w v x h t = mag-fits v x (lt-of-lt-of-le (fits-mag w x t) (pow-mono (omega arith)))
 
 pub small-fits : (b : Bool) (n : ℕ) → n < 2 ^ 63 → fits 64 (withSign b n) ≡ true
 small-fits true n h = fits-negative 64 n ∙ le-leb n (2 ^ 63) (omega arith)

@@ -2,17 +2,17 @@
 use mathlib.Core.Path.{_≡_, refl, sym, _∙_, ap, subst}
 use mathlib.Core.Bool.{Bool, cond, _&&_}
 use Prim.Native.Nat.{ℕ, suc, _+_, _*_, _-_, _/_, _%_, _^_, _≤_, _<_}
-use native.Mathlib.Nat.{mod-lt, mod-eq-of-lt, zero-add, lt-of-lt-of-le}
+use native.Mathlib.Nat.{mod-lt, mod-eq-of-lt, zero-add}
 use native.Mathlib.Omega.{arith}
-use lib.Pow.{pow-pos, pow-mono, shr-lt}
+use lib.Pow.{pow-pos, shr-lt}
 use lib.IntN.{ℤ, pos}
 use borrow.Author.Tests.{lt-ltb}
-use Rattle.bits.specs.Testbit.{isNegative, testbit}
+use Rattle.bits.specs.Testbit.{testbit}
 use Rattle.bits.specs.Shift.{shiftRight}
 use Rattle.bits.specs.Division.{modℕ, «mod»}
 use Rattle.bits.specs.Field.{bitField, copyBitField, permuteField, rotateIndex, reverseIndex, rotateBitField, reverseBitField}
 use Rattle.bits.proofs.IntegerLaws.{pos-sub-lt, pos-sub-ge}
-use Rattle.bits.proofs.TestbitLaws.{by-lt, testbit-ext, testbit-mag-lt}
+use Rattle.bits.proofs.TestbitLaws.{by-lt, testbit-ext, testbit-small}
 use Rattle.bits.proofs.ValueLaws.{bitField-value}
 use Rattle.bits.proofs.FieldLaws.{inField-ge, testbit-bitField, testbit-permuteField-in, testbit-permuteField-out}
 use Rattle.bits.proofs.FieldAlgebra.{setField-ext}
@@ -80,12 +80,10 @@ reverse-put x start end p q =
 -- a number below 2^size that has the permuted bits of v
 permuted : (p : ℕ → ℕ) (n v size : ℕ) → n < 2 ^ size → v < 2 ^ size → ((j : ℕ) → j < size → testbit (pos n) j ≡ testbit (pos v) (p j))
     → pos n ≡ permuteField p (pos v) 0 size
-unfolding isNegative
 permuted p n v size h l e = testbit-ext λ i.
     by-lt (λ b. testbit (pos n) i ≡ testbit (permuteField p (pos v) 0 size) i) i size
     (λ u. e i u ∙ sym (testbit-permute-number p (pos v) size i u))
-    (λ u. testbit-mag-lt (pos n) i (lt-of-lt-of-le h (pow-mono u))
-    ∙ sym (testbit-permuteField-out p (pos v) 0 size i (inField-ge 0 size i u) ∙ testbit-mag-lt (pos v) i (lt-of-lt-of-le l (pow-mono u))))
+    (λ u. testbit-small n size i h u ∙ sym (testbit-permuteField-out p (pos v) 0 size i (inField-ge 0 size i u) ∙ testbit-small v size i l u))
 
 -- where bit j comes from
 pub rotate-low : (size c j : ℕ) → c ≤ size → j < c → rotateIndex size (pos c) j ≡ size - c + j

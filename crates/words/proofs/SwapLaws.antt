@@ -8,10 +8,8 @@ use lib.Dec.{eqb, ltb}
 use lib.IntN.{pos}
 use borrow.Author.Tests.{ltb-true, eqb-true, eqb-false}
 use Rattle.bits.specs.Testbit.{testbit}
-use Rattle.bits.specs.Shift.{shiftLeft}
 use Rattle.bits.proofs.Booleans.{all₂, all₃, both-left, both-right}
-use Rattle.bits.proofs.ShiftLaws.{testbit-shiftLeft}
-use Rattle.words.proofs.FieldWords.{testbit-mod-lt, testbit-div}
+use Rattle.words.proofs.FieldWords.{testbit-mod-lt, testbit-div, testbit-times}
 use Rattle.words.proofs.Digitwise.{testbit-digitwise, and-digitwise, ior-digitwise}
 
 -- ---- a test at every number below n
@@ -39,12 +37,11 @@ swapped size w k mask = bitOr (bitAnd (w / 2 ^ k) mask) (bitAnd w mask * 2 ^ k %
 testbit-swapped : (size w k mask t : ℕ) → t < size
     → testbit (pos (swapped size w k mask)) t
     ≡ testbit (pos w) (k + t) && testbit (pos mask) t || testbit (pos w) (t - k) && (not (ltb t k) && testbit (pos mask) (t - k))
-unfolding shiftLeft
 testbit-swapped size w k mask t h =
     testbit-digitwise ior-digitwise t (bitAnd (w / 2 ^ k) mask) (bitAnd w mask * 2 ^ k % 2 ^ size)
     ∙ ap₂ _||_ (testbit-digitwise and-digitwise t (w / 2 ^ k) mask ∙ ap (λ (b : Bool). b && testbit (pos mask) t) (testbit-div w k t))
     (testbit-mod-lt (bitAnd w mask * 2 ^ k) size t h
-    ∙ testbit-shiftLeft (pos (bitAnd w mask)) k t
+    ∙ testbit-times (bitAnd w mask) k t
     ∙ ap (λ (b : Bool). not (ltb t k) && b) (testbit-digitwise and-digitwise (t - k) w mask)
     ∙ all₃ (λ a b c. a && (b && c)) (λ a b c. b && (a && c)) tt (not (ltb t k)) (testbit (pos w) (t - k)) (testbit (pos mask) (t - k)))
 

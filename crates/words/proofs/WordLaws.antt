@@ -125,16 +125,6 @@ not-below : (k : ℤ) → leZ (pos 0) k ≡ not (ltZ k (pos 0))
 not-below (pos n) = le-leb 0 n zero-le ∙ sym (ap not (le-ltb n 0 zero-le))
 not-below (negsuc n) = refl
 
-natural : (k : ℤ) → mag k < 2 ^ 63 → ltZ k (pos 0) ≡ false → T (nonNeg k) × (natAbs k < 2 ^ 63)
-natural (pos n) h e = (tt, h)
-natural (negsuc n) h e = absurd (true≢false e)
-
-module _ (k : ℤ) {q : ℤ} (e : q ≡ k) where
-  -- the code's test is that of the domain
-  pub position-tested : leZ (pos 0) k ≡ not (ltZ q (pos 0))
-  position-tested = not-below k ∙ ap (λ (y : ℤ). not (ltZ y (pos 0))) (sym e)
-
-  -- what the cast to an unsigned word asks, and what it gives
-  pub position-natural : mag k < 2 ^ 63 → ltZ q (pos 0) ≡ false → T (nonNeg q) × (natAbs q < 2 ^ 63)
-  position-natural h t =
-      subst (λ (y : ℤ). T (nonNeg y) × (natAbs y < 2 ^ 63)) (sym e) (natural k h (ap (λ (y : ℤ). ltZ y (pos 0)) (sym e) ∙ t))
+-- the code's test is that of the domain
+pub position-tested : (k : ℤ) {q : ℤ} → q ≡ k → leZ (pos 0) k ≡ not (ltZ q (pos 0))
+position-tested k e = not-below k ∙ ap (λ (y : ℤ). not (ltZ y (pos 0))) (sym e)

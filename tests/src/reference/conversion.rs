@@ -1,4 +1,4 @@
-//! The conversions between fixnum and limbs. The room is in `output`.
+//! The conversions between fixnum and limbs. The capacity is in `output`.
 
 use super::fixnum::{is_fixnum, is_width};
 use super::integer::Integer;

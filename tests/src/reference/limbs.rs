@@ -1,4 +1,4 @@
-//! The limb calls: operands, domains and size, in the order of their refusals. The room is in `output`.
+//! The limb calls: operands, domains and size, in the order of their refusals. The capacity is in `output`.
 
 use super::integer::Integer;
 use super::limb_results::*;

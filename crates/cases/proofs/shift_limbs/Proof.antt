@@ -4,12 +4,12 @@ use Prim.Native.Nat.{_≤_}
 use mathlib.Core.Path.{sym}
 use lib.ListN.{length}
 use lib.Seq.{length-take-le}
-use Rattle.limbs.proofs.OutcomeLaws.{written-within}
+use Rattle.limbs.proofs.WritesLaws.{written-within}
 use Rattle.cases.proofs.shift_limbs.Statement.{statement}
 use Rattle.cases.proofs.shift_limbs.Tie as tie
 
 abbrev within : (c : tie.After-bitwise-shift) → c .bitwise-shift .result .length ≤ length (c .bitwise-shift .last .1 .1 .0)
-within c = written-within (c .bitwise-shift .ensures) (c .bitwise-shift .kept .1 .1 .0)
+within c = written-within (c .bitwise-shift .ensures) .0
 
 slice-reshare-prefix-to-word : tie.Need-slice-reshare-prefix-to-word
 slice-reshare-prefix-to-word c = within (c .before .before)

@@ -6,10 +6,11 @@ use borrow.Author.Needs.{needs}
 use borrow.Author.Tests.{not-false}
 use Rattle.bits.specs.Testbit.{fits}
 use Rattle.words.proofs.WordLaws.{back}
-use Rattle.fixnum.specs.Domains.{isWidth}
-use Rattle.fixnum.proofs.CallLaws.{width-bounds}
-use Rattle.limbs.specs.Buffer.{integer}
-use Rattle.limbs.proofs.OutcomeLaws.{passed, failed-by, passed-by, writes-refused, writes-as}
+use Rattle.fxtable.specs.Domains.{isWidth}
+use Rattle.fxtable.proofs.CallLaws.{width-bounds}
+use Rattle.outcomes.specs.Outcome.{done}
+use Rattle.outcomes.proofs.OutcomeLaws.{passed, failed-by, passed-by}
+use Rattle.limbs.proofs.WritesLaws.{writes-refused, writes-as}
 use Rattle.convert.specs.Convert.{toLimbsOutcome}
 use Rattle.convert.proofs.fixnum_to_limbs.Statement.{statement}
 use Rattle.convert.proofs.fixnum_to_limbs.Tie as tie
@@ -34,7 +35,7 @@ returns-2 : tie.Need-returns-2
 unfolding toLimbsOutcome
 returns-2 c =
     let f = c .before .before in
-    writes-refused _ _ (passed _ 1 _ (width-ok (f .before)) ∙ failed-by 4 _ (tested f) (c .before .if2 .taken)) (c .refuse2 .ensures)
+    writes-refused _ _ (passed 1 _ (width-ok (f .before)) ∙ failed-by 4 _ (tested f) (c .before .if2 .taken)) (c .refuse2 .ensures)
 
 returns-3 : tie.Need-returns-3
 unfolding toLimbsOutcome
@@ -42,7 +43,7 @@ returns-3 c =
     let e = c .before .before .before .before in
     let f = e .before in
     writes-as
-    (passed _ 1 _ (width-ok (f .before)) ∙ passed-by 4 _ (tested f) (e .if2 .left) ∙ sym (ap integer (back (f .before .before .before .before .fits .n))))
+    (passed 1 _ (width-ok (f .before)) ∙ passed-by 4 _ (tested f) (e .if2 .left) ∙ sym (ap done (back (f .before .before .before .before .fits .n))))
     (c .before .before .from-word .ensures)
 
 pub fixnum-to-limbs-spec : {M : Type 1} → statement M

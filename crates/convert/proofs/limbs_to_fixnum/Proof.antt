@@ -4,10 +4,10 @@ use mathlib.Core.Path.{_≡_, sym, ap, _∙_}
 use mathlib.Core.Bool.{true}
 use borrow.Author.Needs.{needs}
 use borrow.Author.Tests.{not-false}
-use Rattle.fixnum.specs.Domains.{isWidth}
-use Rattle.fixnum.proofs.CallLaws.{width-bounds}
+use Rattle.fxtable.specs.Domains.{isWidth}
+use Rattle.fxtable.proofs.CallLaws.{width-bounds}
 use Rattle.limbs.specs.Buffer.{number}
-use Rattle.limbs.proofs.OutcomeLaws.{failed-by}
+use Rattle.outcomes.proofs.OutcomeLaws.{failed-by}
 use Rattle.convert.specs.Convert.{toFixnumOutcome}
 use Rattle.convert.proofs.ConvertLaws.{no-word, large-word, small-word}
 use Rattle.convert.proofs.limbs_to_fixnum.Statement.{statement}

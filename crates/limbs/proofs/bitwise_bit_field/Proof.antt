@@ -1,65 +1,57 @@
 -- `limbs::bitwise_bit_field` meets its contract. Assumes nothing.
 use native.Mathlib.Omega.{arith}
 use Prim.Native.Nat.{ℕ}
-use mathlib.Core.Path.{_≡_, sym, ap, ap₂, _∙_}
-use mathlib.Core.Bool.{true}
-use lib.IntN.{natAbs}
-use Rattle.words.proofs.WordLaws.{back}
+use mathlib.Core.Path.{sym, ap₂, _∙_}
 use Rattle.bits.specs.Field.{bitField}
+use Rattle.bits.proofs.LengthBounds.{bitField-length}
+use Rattle.outcomes.specs.Outcome.{done}
 use Rattle.limbwords.specs.Value.{value}
-use Rattle.limbs.specs.Buffer.{integer}
-use Rattle.limbs.specs.Inner.{Decides}
-use Rattle.limbs.specs.Operations.{isOperand, operand, field, bitFieldOutcome}
-use Rattle.limbs.proofs.StageLaws.{refused-call, done-call, LegalField, one-field, legal-field}
+use Rattle.limbwords.specs.Results.{meaning, Proper}
+use Rattle.limbs.specs.Operations.{bitFieldOutcome}
+use Rattle.limbs.proofs.StageLaws.{operand-twice, operand-lengths, LegalField, field-refused, field-legal}
+use Rattle.limbs.proofs.WritesLaws.{writes-as, writes-refused}
 use borrow.Author.Needs.{needs}
 use Rattle.limbs.proofs.bitwise_bit_field.Statement.{statement}
 use Rattle.limbs.proofs.bitwise_bit_field.Tie as tie
 
-decided : (c : tie.After-check-field) → let a = c .before .before .before in Decides (λ o. operand (a .args .x .now) (field (a .args .start) (a .args .end) o)) (c .check-field .result)
-decided c =
-    let f = c .before .before .before .fits in
-    one-field _ _ _ (rw (back (f .start), back (f .end)) at (c .check-field .ensures))
+legal-field : (c : tie.After-start) → let a = c .before .before .before .before .before in
+    LegalField (a .args .x .now) (a .args .x .now) (a .args .start) (a .args .end) (c .start .given .0 .0) (c .start .given .0 .1 .0)
+legal-field c =
+    let a = c .before .before .before .before .before in
+    field-legal (a .args .x .now) (a .args .x .now) (a .fits .start) (a .fits .end) (c .before .before .check-field .ensures) (c .start .given .1) .0
 
-legal : (c : tie.Else1) → let a = c .before .before .before .before in (isOperand (a .args .x .now) ≡ true) × LegalField (a .args .start) (a .args .end)
-legal c = legal-field (c .if1 .left) _ _ _ (decided (c .before))
-
--- the numbers as the machine has them
-from : (c : tie.After-natural) → c .natural .result ≡ natAbs (c .before .before .before .before .before .args .start)
-from c = c .natural .ensures ∙ ap natAbs (back (c .before .before .before .before .before .fits .start))
-
-to : (c : tie.After-natural2) → c .natural2 .result ≡ natAbs (c .before .before .before .before .before .before .args .end)
-to c = c .natural2 .ensures ∙ ap natAbs (back (c .before .before .before .before .before .before .fits .end))
+run-requires : tie.Need-run-requires
+unfolding meaning Proper
+run-requires c κs =
+    let l = legal-field (c .before .before) in
+    let last = l .last in
+    let x = operand-lengths _ (l .first) .0 in
+    (x, (x, (x, (((l .order, omega arith), (omega arith, omega arith)), omega (arith, bitField-length (value (c .before .before .before .before .before .before .before .args .x .now)) (c .before .before .start .given .0 .0) (c .before .before .start .given .0 .1 .0))))))
 
 returns : tie.Need-returns
-unfolding bitFieldOutcome
-returns c = refused-call (decided (c .before .before)) _ (c .before .if1 .taken) (c .refuse .ensures)
-
-natural-requires : tie.Need-natural-requires
-natural-requires c κs = rw (back (c .before .before .before .before .fits .start)) (legal c .1 .from)
-
-natural-requires-2 : tie.Need-natural-requires-2
-natural-requires-2 c κs = rw (back (c .before .before .before .before .before .fits .end)) (legal (c .before) .1 .to)
-
-take-field-requires : tie.Need-take-field-requires
-take-field-requires c κs = (legal (c .before .before .before) .0, omega (arith, from (c .before .before), to (c .before), legal (c .before .before .before) .1 .order, legal (c .before .before .before) .1 .last))
+unfolding bitFieldOutcome meaning
+returns c =
+    let a = c .before .before .before .before .before .before .before .before .before .before in
+    let l = field-legal (a .args .x .now) (a .args .x .now) (a .fits .start) (a .fits .end) (c .before .before .before .before .before .before .before .check-field .ensures) (c .before .before .before .before .before .start .given .1) in
+    writes-as (sym (operand-twice _ _) ∙ l .1 _ ∙ ap₂ (λ (s e : ℕ). done (bitField (value (a .args .x .now)) s e)) (l .0 .from) (l .0 .to)) (c .before .before .run .ensures)
 
 returns-2 : tie.Need-returns-2
 unfolding bitFieldOutcome
 returns-2 c =
-    let a = c .before .before .before .before .before .before .before .before .before .before in
-    done-call (decided (c .before .before .before .before .before .before .before)) (c .before .before .before .before .before .before .if1 .left)
-    (ap₂ (λ (s e : ℕ). integer (bitField (value (a .args .x .now)) s e)) (sym (from (c .before .before .before .before .before))) (sym (to (c .before .before .before .before))))
-    (c .before .before .take-field .ensures)
+    let a = c .before .before .before .before .before .before .before in
+    writes-refused _ _ (sym (operand-twice _ _) ∙ field-refused _ _ (a .fits .start) (a .fits .end) (c .before .before .before .before .check-field .ensures) _ (c .before .before .k .given .1)) (c .refuse .ensures)
 
 pub bitwise-bit-field-spec : {M : Type 1} → statement M
 bitwise-bit-field-spec =
     tie.close
     (tie.spec
     (λ c κs. search needs)
-    (λ c κs. search needs)
-    returns
-    natural-requires
-    natural-requires-2
-    take-field-requires
     (λ c. search needs)
+    (λ c. legal-field (c .before) .order)
+    (λ c. search needs)
+    run-requires
+    (λ c. search needs)
+    (λ c κs. search needs)
+    (λ c. search needs)
+    returns
     returns-2)

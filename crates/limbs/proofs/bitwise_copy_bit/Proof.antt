@@ -1,98 +1,63 @@
 -- `limbs::bitwise_copy_bit` meets its contract. Assumes nothing.
 use native.Mathlib.Omega.{arith}
-use Prim.Native.Nat.{ℕ, _+_, _≤_}
+use Prim.Native.Nat.{ℕ}
 use native.Mathlib.Numerals.{add-one}
-use mathlib.Core.Path.{_≡_, refl, sym, ap, ap₂, _∙_}
-use mathlib.Core.Bool.{true}
-use lib.IntN.{ℤ, pos, natAbs}
-use lib.Signed.{leZ}
-use Rattle.words.proofs.WordLaws.{back, natural-pos}
+use mathlib.Core.Path.{refl, sym, ap₂, _∙_}
+use lib.IntN.{ℤ}
 use Rattle.bits.specs.Field.{copyBit, copyBitField}
-use Rattle.bits.specs.Range.{within}
+use Rattle.bits.proofs.LengthBounds.{copyBitField-length}
+use Rattle.outcomes.specs.Outcome.{done}
 use Rattle.limbwords.specs.Value.{value}
-use Rattle.limbs.specs.Buffer.{unless, integer}
-use Rattle.limbs.specs.Inner.{Decides}
-use Rattle.limbs.specs.Operations.{mostLimbs, isOperand, operand, copyBitOutcome}
+use Rattle.limbwords.specs.Results.{meaning, Proper}
 use Rattle.limbwords.proofs.ValueLaws.{value-small}
-use Rattle.limbs.proofs.StageLaws.{refused-call, done-call, legal-bit, within-natural}
+use Rattle.limbs.specs.Operations.{mostLimbs, isOperand, copyBitOutcome}
+use Rattle.limbs.proofs.StageLaws.{LegalBit, new-bit-refused, new-bit-legal}
+use Rattle.limbs.proofs.WritesLaws.{writes-as, writes-refused}
 use borrow.Author.Needs.{needs}
 use Rattle.limbs.proofs.bitwise_copy_bit.Statement.{statement}
 use Rattle.limbs.proofs.bitwise_copy_bit.Tie as tie
 
-decided : (c : tie.After-check-bit) → let a = c .before .before .before in
-    Decides (λ o. operand (a .args .x .now) (unless (within (pos 0) (a .args .position) (pos 32766)) 5 (unless (within (pos 0) (a .args .bit) (pos 1)) 5 o))) (c .check-bit .result)
-decided c =
-    let f = c .before .before .before .fits in
-    rw (back (f .position), back (f .bit)) at (c .check-bit .ensures)
+legal-bit : (c : tie.After-position) → let a = c .before .before .before .before .before in
+    LegalBit (a .args .x .now) (a .args .position) (a .args .bit) (c .position .given .0 .0) (c .position .given .0 .1 .0)
+legal-bit c = let a = c .before .before .before .before .before in new-bit-legal (a .args .x .now) (a .fits .position) (a .fits .bit) (c .before .before .check-new-bit .ensures) (c .position .given .1) .0
 
-legal : (c : tie.Else1) → let a = c .before .before .before .before in
-    (isOperand (a .args .x .now) ≡ true)
-    × (((leZ (pos 0) (a .args .position) ≡ true) × (natAbs (a .args .position) ≤ 32766)) × ((leZ (pos 0) (a .args .bit) ≡ true) × (natAbs (a .args .bit) ≤ 1)))
-legal c =
-    let a = c .before .before .before .before in
-    let l = legal-bit (c .if1 .left) _ (a .args .position) (a .args .bit) (decided (c .before)) in
-    (l .0, (within-natural _ 32766 (l .1 .0), within-natural _ 1 (l .1 .1)))
-
--- the numbers as the machine has them
-bit-is : (c : tie.After-natural) → c .natural .result ≡ natAbs (c .before .before .before .before .before .args .bit)
-bit-is c = c .natural .ensures ∙ ap natAbs (back (c .before .before .before .before .before .fits .bit))
-
-start-is : (c : tie.After-natural2) → c .natural2 .result ≡ natAbs (c .before .before .before .before .before .before .before .args .position)
-start-is c = c .natural2 .ensures ∙ ap natAbs (back (c .before .before .before .before .before .before .before .fits .position))
-
-end-is : (c : tie.After-natural3) → c .natural3 .result ≡ natAbs (c .before .before .before .before .before .before .before .before .args .position)
-end-is c = c .natural3 .ensures ∙ ap natAbs (back (c .before .before .before .before .before .before .before .before .fits .position))
+run-field-requires : tie.Need-run-field-requires
+unfolding meaning Proper isOperand mostLimbs
+run-field-requires c κs =
+    let l = legal-bit (c .before .before .before) in
+    let last = l .last in
+    ((l .first, refl), (((omega arith, omega arith), omega arith), copyBitField-length _ _ _ _))
 
 returns : tie.Need-returns
-unfolding copyBitOutcome
-returns c = refused-call (decided (c .before .before)) _ (c .before .if1 .taken) (c .refuse .ensures)
-
-natural-requires : tie.Need-natural-requires
-natural-requires c κs = rw (back (c .before .before .before .before .fits .bit)) (legal c .1 .1 .0)
-
-cast-t10 : tie.Need-cast-t10
-cast-t10 c = omega (arith, bit-is c, legal (c .before) .1 .1 .1)
-
-natural-requires-2 : tie.Need-natural-requires-2
-natural-requires-2 c κs = rw (back (c .before .before .before .before .before .before .fits .position)) (legal (c .before .before) .1 .0 .0)
-
-natural-requires-3 : tie.Need-natural-requires-3
-natural-requires-3 c κs = rw (back (c .before .before .before .before .before .before .before .fits .position)) (legal (c .before .before .before) .1 .0 .0)
-
-add-copy-field : tie.Need-add-copy-field
-add-copy-field c = omega (arith, end-is c, legal (c .before .before .before .before) .1 .0 .1)
-
-copy-field-requires : tie.Need-copy-field-requires
-unfolding isOperand mostLimbs
-copy-field-requires c κs =
-    let l = legal (c .before .before .before .before .before) in
-    ((l .0, refl), (omega (arith, start-is (c .before .before), end-is (c .before)), omega (arith, end-is (c .before), l .1 .0 .1)))
+unfolding copyBitOutcome copyBit meaning
+returns c =
+    let a = c .before .before .before .before .before .before .before .before .before .before .before in
+    let x = value (a .args .x .now) in
+    let (at, (bit, _)) = c .before .before .before .before .before .before .position .given .0 in
+    let l = legal-bit (c .before .before .before .before .before .before) in
+    writes-as
+    (new-bit-legal (a .args .x .now) (a .fits .position) (a .fits .bit) (c .before .before .before .before .before .before .before .before .check-new-bit .ensures) (c .before .before .before .before .before .before .position .given .1) .1 _
+    ∙ ap₂ (λ (n : ℕ) (z : ℤ). done (copyBit x n z)) (l .at) (l .new)
+    ∙ ap₂ (λ (e : ℕ) (z : ℤ). done (copyBitField x at e z)) (sym (add-one at)) (sym (value-small bit (omega (arith, l .small)))))
+    (c .before .before .run-field .ensures)
 
 returns-2 : tie.Need-returns-2
-unfolding copyBitOutcome copyBit
+unfolding copyBitOutcome
 returns-2 c =
-    let a = c .before .before .before .before .before .before .before .before .before .before .before .before in
-    let l = legal (c .before .before .before .before .before .before .before .before) in
-    let bit = value-small _ (omega (arith, bit-is (c .before .before .before .before .before .before .before), l .1 .1 .1)) ∙ sym (natural-pos _ (l .1 .1 .0) (bit-is (c .before .before .before .before .before .before .before))) in
-    let end = ap (λ (n : ℕ). n + 1) (end-is (c .before .before .before .before)) ∙ add-one _ in
-    done-call (decided (c .before .before .before .before .before .before .before .before .before)) (c .before .before .before .before .before .before .before .before .if1 .left)
-    (sym (ap (λ (y : ℤ). integer (copyBitField (value (a .args .x .now)) (c .before .before .before .before .before .natural2 .result) (c .before .before .before .before .natural3 .result + 1) y)) bit
-    ∙ ap₂ (λ (s e : ℕ). integer (copyBitField (value (a .args .x .now)) s e (a .args .bit))) (start-is (c .before .before .before .before .before)) end))
-    (c .before .before .copy-field .ensures)
+    let a = c .before .before .before .before .before .before .before in
+    writes-refused _ _ (new-bit-refused _ (a .fits .position) (a .fits .bit) (c .before .before .before .before .check-new-bit .ensures) _ (c .before .before .k .given .1)) (c .refuse .ensures)
 
 pub bitwise-copy-bit-spec : {M : Type 1} → statement M
 bitwise-copy-bit-spec =
     tie.close
     (tie.spec
     (λ c κs. search needs)
+    (λ c. search needs)
+    (λ c. record { fits = omega (arith, legal-bit (c .before) .last) })
+    (λ c. search needs)
+    run-field-requires
+    (λ c. search needs)
     (λ c κs. search needs)
+    (λ c. search needs)
     returns
-    natural-requires
-    cast-t10
-    (λ c. search needs)
-    natural-requires-2
-    natural-requires-3
-    add-copy-field
-    copy-field-requires
-    (λ c. search needs)
     returns-2)

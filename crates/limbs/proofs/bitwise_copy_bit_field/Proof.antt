@@ -1,65 +1,48 @@
 -- `limbs::bitwise_copy_bit_field` meets its contract. Assumes nothing.
 use native.Mathlib.Omega.{arith}
 use Prim.Native.Nat.{ℕ}
-use mathlib.Core.Path.{_≡_, sym, ap, ap₂, _∙_}
-use mathlib.Core.Bool.{true}
-use lib.IntN.{natAbs}
-use Rattle.words.proofs.WordLaws.{back}
+use mathlib.Core.Path.{ap₂, _∙_}
 use Rattle.bits.specs.Field.{copyBitField}
+use Rattle.bits.proofs.LengthBounds.{copyBitField-length}
+use Rattle.outcomes.specs.Outcome.{done}
 use Rattle.limbwords.specs.Value.{value}
-use Rattle.limbs.specs.Buffer.{integer}
-use Rattle.limbs.specs.Inner.{Decides}
-use Rattle.limbs.specs.Operations.{isOperand, operand, field, copyBitFieldOutcome}
-use Rattle.limbs.proofs.StageLaws.{refused-call, done-call, LegalField, legal-fields}
+use Rattle.limbwords.specs.Results.{meaning, Proper}
+use Rattle.limbs.specs.Operations.{copyBitFieldOutcome}
+use Rattle.limbs.proofs.StageLaws.{field-refused, field-legal}
+use Rattle.limbs.proofs.WritesLaws.{writes-as, writes-refused}
 use borrow.Author.Needs.{needs}
 use Rattle.limbs.proofs.bitwise_copy_bit_field.Statement.{statement}
 use Rattle.limbs.proofs.bitwise_copy_bit_field.Tie as tie
 
-decided : (c : tie.After-check-field) → let a = c .before .before .before .before in Decides (λ o. operand (a .args .x .now) (operand (a .args .y .now) (field (a .args .start) (a .args .end) o))) (c .check-field .result)
-decided c =
-    let f = c .before .before .before .before .fits in
-    (rw (back (f .start), back (f .end)) at (c .check-field .ensures))
-
-legal : (c : tie.Else1) → let a = c .before .before .before .before .before in (isOperand (a .args .x .now) ≡ true) × ((isOperand (a .args .y .now) ≡ true) × LegalField (a .args .start) (a .args .end))
-legal c = legal-fields (c .if1 .left) _ _ _ _ (decided (c .before))
-
--- the numbers as the machine has them
-from : (c : tie.After-natural) → c .natural .result ≡ natAbs (c .before .before .before .before .before .before .args .start)
-from c = c .natural .ensures ∙ ap natAbs (back (c .before .before .before .before .before .before .fits .start))
-
-to : (c : tie.After-natural2) → c .natural2 .result ≡ natAbs (c .before .before .before .before .before .before .before .args .end)
-to c = c .natural2 .ensures ∙ ap natAbs (back (c .before .before .before .before .before .before .before .fits .end))
+run-field-requires : tie.Need-run-field-requires
+unfolding meaning Proper
+run-field-requires c κs =
+    let a = c .before .before .before .before .before .before .before .before in
+    let l = field-legal (a .args .x .now) (a .args .y .now) (a .fits .start) (a .fits .end) (c .before .before .before .before .check-field .ensures) (c .before .before .start .given .1) .0 in
+    ((l .first, l .second), (((l .order, omega (arith, l .last)), l .last), copyBitField-length _ _ _ _))
 
 returns : tie.Need-returns
-unfolding copyBitFieldOutcome
-returns c = refused-call (decided (c .before .before)) _ (c .before .if1 .taken) (c .refuse .ensures)
-
-natural-requires : tie.Need-natural-requires
-natural-requires c κs = rw (back (c .before .before .before .before .before .fits .start)) (legal c .1 .1 .from)
-
-natural-requires-2 : tie.Need-natural-requires-2
-natural-requires-2 c κs = rw (back (c .before .before .before .before .before .before .fits .end)) (legal (c .before) .1 .1 .to)
-
-copy-field-requires : tie.Need-copy-field-requires
-copy-field-requires c κs = ((legal (c .before .before .before) .0, legal (c .before .before .before) .1 .0), omega (arith, from (c .before .before), to (c .before), legal (c .before .before .before) .1 .1 .order, legal (c .before .before .before) .1 .1 .last))
+unfolding copyBitFieldOutcome meaning
+returns c =
+    let a = c .before .before .before .before .before .before .before .before .before .before .before in
+    let l = field-legal (a .args .x .now) (a .args .y .now) (a .fits .start) (a .fits .end) (c .before .before .before .before .before .before .before .check-field .ensures) (c .before .before .before .before .before .start .given .1) in
+    writes-as (l .1 _ ∙ ap₂ (λ (s e : ℕ). done (copyBitField (value (a .args .x .now)) s e (value (a .args .y .now)))) (l .0 .from) (l .0 .to)) (c .before .before .run-field .ensures)
 
 returns-2 : tie.Need-returns-2
 unfolding copyBitFieldOutcome
 returns-2 c =
-    let a = c .before .before .before .before .before .before .before .before .before .before .before in
-    done-call (decided (c .before .before .before .before .before .before .before)) (c .before .before .before .before .before .before .if1 .left)
-    (ap₂ (λ (s e : ℕ). integer (copyBitField (value (a .args .x .now)) s e (value (a .args .y .now)))) (sym (from (c .before .before .before .before .before))) (sym (to (c .before .before .before .before))))
-    (c .before .before .copy-field .ensures)
+    let a = c .before .before .before .before .before .before .before .before in
+    writes-refused _ _ (field-refused _ _ (a .fits .start) (a .fits .end) (c .before .before .before .before .check-field .ensures) _ (c .before .before .k .given .1)) (c .refuse .ensures)
 
 pub bitwise-copy-bit-field-spec : {M : Type 1} → statement M
 bitwise-copy-bit-field-spec =
     tie.close
     (tie.spec
     (λ c κs. search needs)
-    (λ c κs. search needs)
-    returns
-    natural-requires
-    natural-requires-2
-    copy-field-requires
     (λ c. search needs)
+    run-field-requires
+    (λ c. search needs)
+    (λ c κs. search needs)
+    (λ c. search needs)
+    returns
     returns-2)

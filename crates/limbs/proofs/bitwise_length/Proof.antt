@@ -7,7 +7,8 @@ use mir.ValLaws.{toZ-pos}
 use borrow.Author.Needs.{needs}
 use Rattle.limbs.specs.Operations.{lengthOutcome}
 use Rattle.limbwords.proofs.ValueLaws.{value-length}
-use Rattle.limbs.proofs.NumberLaws.{refused-operand, operand-lengths, answered}
+use Rattle.limbs.proofs.StageLaws.{legal, operand-lengths}
+use Rattle.limbs.proofs.NumberLaws.{refused-operand, answered}
 use Rattle.limbs.proofs.bitwise_length.Statement.{statement}
 use Rattle.limbs.proofs.bitwise_length.Tie as tie
 
@@ -15,20 +16,17 @@ returns : tie.Need-returns
 unfolding lengthOutcome
 returns c = refused-operand _ _ (c .before .before .is-operand .ensures) (c .before .if1 .taken) (c .refuse-number .ensures)
 
-bit-length-requires : tie.Need-bit-length-requires
-bit-length-requires c κs = operand-lengths _ (c .before .is-operand .ensures) (c .if1 .left)
-
 cast-done : tie.Need-cast-done
 cast-done c =
     let e = c .before in
-    let (positive, most) = operand-lengths _ (e .before .is-operand .ensures) (e .if1 .left) in
+    let (positive, most) = operand-lengths _ (legal (e .before .is-operand .ensures) (e .if1 .left)) in
     record { sfits = omega (arith, c .bit-length .ensures, value-length (e .before .before .before .args .x .now) positive) }
 
 returns-2 : tie.Need-returns-2
 unfolding lengthOutcome
 returns-2 c =
     let e = c .before .before in
-    answered _ (e .before .is-operand .ensures) (e .if1 .left) refl (c .done .ensures)
+    answered _ (legal (e .before .is-operand .ensures) (e .if1 .left)) refl (c .done .ensures)
     (toZ-pos w64 _ (cast-done (c .before) .sfits) ∙ ap pos (c .before .bit-length .ensures))
 
 pub bitwise-length-spec : {M : Type 1} → statement M
@@ -38,7 +36,7 @@ bitwise-length-spec =
     (λ c κs. search needs)
     (λ c κs. search needs)
     returns
-    bit-length-requires
+    (λ c κs. operand-lengths _ (legal (c .before .is-operand .ensures) (c .if1 .left)))
     cast-done
     (λ c κs. search needs)
     returns-2)

@@ -1,57 +1,38 @@
 -- `limbs::bitwise_shift_left` meets its contract. Assumes nothing.
-use Prim.Native.Nat.{ℕ}
-use mathlib.Core.Path.{_≡_, sym, ap, _∙_}
-use mathlib.Core.Bool.{true}
-use lib.IntN.{pos, natAbs}
-use lib.Signed.{leZ}
-use mir.Syntax.{w64}
-use mir.Val.{toZ, ofZ}
+use mathlib.Core.Path.{ap, _∙_}
+use lib.IntN.{ℤ, natAbs}
 use Rattle.bits.specs.Shift.{shiftLeft}
-use Rattle.words.proofs.WordLaws.{back}
 use Rattle.limbwords.specs.Value.{value}
-use Rattle.limbs.specs.Operations.{isOperand, sized, shiftLeftOutcome}
-use Rattle.limbs.proofs.StageLaws.{refused-call, done-call}
-use Rattle.limbs.proofs.ShiftCalls.{count-legal}
+use Rattle.limbs.specs.Operations.{sized, shiftLeftOutcome}
+use Rattle.limbs.proofs.StageLaws.{natural-refused, natural-legal}
+use Rattle.limbs.proofs.WritesLaws.{writes-as, writes-refused}
 use borrow.Author.Needs.{needs}
 use Rattle.limbs.proofs.bitwise_shift_left.Statement.{statement}
 use Rattle.limbs.proofs.bitwise_shift_left.Tie as tie
 
+shift-left-requires : tie.Need-shift-left-requires
+shift-left-requires c κs = let a = c .before .before .before .before .before .before .before in natural-legal (a .args .x .now) (a .fits .distance) (c .before .before .before .before .check-natural .ensures) (c .before .before .by .given .1) .0
+
 returns : tie.Need-returns
 unfolding shiftLeftOutcome
 returns c =
-    let k = c .before .before in
-    refused-call (rw (back (k .before .before .before .fits .distance)) at (k .check-count .ensures)) _ (c .before .if1 .taken) (c .refuse .ensures)
-
-legal : (c : tie.Else1) → let a = c .before .before .before .before .args in
-    (isOperand (a .x .now) ≡ true) × (leZ (pos 0) (toZ w64 (ofZ w64 (a .distance))) ≡ true)
-legal c =
-    count-legal _ (toZ w64 (ofZ w64 (c .before .before .before .before .args .distance))) (c .before .check-count .ensures) (c .if1 .left)
-
-natural-requires : tie.Need-natural-requires
-natural-requires c κs = legal c .1
-
-move-left-requires : tie.Need-move-left-requires
-move-left-requires c κs = legal (c .before .before) .0
+    let a = c .before .before .before .before .before .before .before .before .before .before in
+    let l = natural-legal (a .args .x .now) (a .fits .distance) (c .before .before .before .before .before .before .before .check-natural .ensures) (c .before .before .before .before .before .by .given .1) in
+    writes-as (l .1 .1 _ ∙ ap (λ (d : ℤ). sized (shiftLeft (value (a .args .x .now)) (natAbs d))) (l .1 .0)) (c .before .before .shift-left .ensures)
 
 returns-2 : tie.Need-returns-2
 unfolding shiftLeftOutcome
-returns-2 c =
-    let n = c .before .before .before .before in
-    let k = n .before .before in
-    let a = k .before .before .before in
-    let b = back (a .fits .distance) in
-    done-call (rw b at (k .check-count .ensures)) (n .before .if1 .left)
-    (ap (λ (by : ℕ). sized (shiftLeft (value (a .args .x .now)) by)) (sym (n .natural .ensures ∙ ap natAbs b)))
-    (c .before .before .move-left .ensures)
+returns-2 c = writes-refused _ _ (natural-refused _ (c .before .before .before .before .before .before .before .fits .distance) (c .before .before .before .before .check-natural .ensures) _ (c .before .before .k .given .1)) (c .refuse .ensures)
 
 pub bitwise-shift-left-spec : {M : Type 1} → statement M
 bitwise-shift-left-spec =
     tie.close
     (tie.spec
     (λ c κs. search needs)
-    (λ c κs. search needs)
-    returns
-    natural-requires
-    move-left-requires
     (λ c. search needs)
+    shift-left-requires
+    (λ c. search needs)
+    (λ c κs. search needs)
+    (λ c. search needs)
+    returns
     returns-2)

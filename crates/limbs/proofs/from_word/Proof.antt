@@ -1,12 +1,14 @@
 -- `limbs::from_word` meets its contract. Assumes nothing.
+use native.Mathlib.Omega.{arith}
 use mathlib.Core.Path.{_≡_, sym, ap}
+use mathlib.Core.List.{[], _∷_}
 use lib.Dec.{lit<}
 use Rattle.words.proofs.WordLaws.{back}
-use Rattle.limbwords.specs.Value.{bitsFrom}
-use Rattle.limbs.specs.Buffer.{integer}
-use Rattle.limbwords.specs.Results.{meaning, Proper}
-use Rattle.limbs.proofs.OutcomeLaws.{writes-as}
-use Rattle.limbs.proofs.ShiftCalls.{word-shifted, word-enough}
+use Rattle.outcomes.specs.Outcome.{done}
+use Rattle.limbwords.specs.Value.{value, bitsFrom}
+use Rattle.limbwords.proofs.ValueLaws.{limbCount-le, value-length}
+use Rattle.limbs.proofs.ShiftLaws.{word-limbs}
+use Rattle.limbs.proofs.WritesLaws.{writes-as}
 use borrow.Author.Needs.{needs}
 use Rattle.limbs.proofs.from_word.Statement.{statement}
 use Rattle.limbs.proofs.from_word.Tie as tie
@@ -17,19 +19,14 @@ low c = rw (back (c .before .before .fits .v)) at (c .word-bits .ensures)
 high : (c : tie.After-word-bits2) → c .word-bits2 .result ≡ bitsFrom (c .before .before .before .args .v) 32
 high c = rw (back (c .before .before .before .fits .v)) at (c .word-bits2 .ensures)
 
-run-requires : tie.Need-run-requires
-unfolding meaning Proper
-run-requires c κs =
-    let w = c .before .before .before .before in
-    let f = w .before .before .before .fits .v .sfits in
-    (lit< tt, (lit< tt, (lit< tt, ((lit< tt, (lit< tt, lit< tt)), word-enough _ f (low (w .before)) (high w)))))
+store-limbs-requires : tie.Need-store-limbs-requires
+store-limbs-requires c κs =
+    let n = c .before .shortest-length .ensures in
+    let xs = c .before .before .before .before .before .word-bits .result ∷ c .before .before .before .before .word-bits2 .result ∷ [] in
+    ((lit< tt, omega (arith, n, limbCount-le (value xs) 2 (value-length xs (lit< tt)))), n)
 
 returns : tie.Need-returns
-unfolding meaning
-returns c =
-    let w = c .before .before .before .before .before .before .before in
-    let f = w .before .before .before .fits .v .sfits in
-    writes-as (ap integer (sym (word-shifted _ f (low (w .before)) (high w)))) (c .before .before .run .ensures)
+returns c = let w = c .before .before .before .before .before .before .before in writes-as (ap done (sym (word-limbs _ (w .before .before .before .fits .v .sfits) (low (w .before)) (high w)))) (c .before .before .store-limbs .ensures)
 
 pub from-word-spec : {M : Type 1} → statement M
 from-word-spec =
@@ -39,7 +36,7 @@ from-word-spec =
     (λ c κs. search needs)
     (λ c. search needs)
     (λ c. search needs)
-    (λ c. search needs)
-    run-requires
+    (λ c κs. search needs)
+    store-limbs-requires
     (λ c. search needs)
     returns)

@@ -5,8 +5,9 @@ use mir.Syntax.{w64}
 use mir.ValLaws.{toZ-ofZ}
 use borrow.Author.Needs.{needs}
 use Rattle.limbs.specs.Operations.{wordOutcome}
-use Rattle.limbs.proofs.OutcomeLaws.{passed, failed}
-use Rattle.limbs.proofs.NumberLaws.{refused-operand, operand-lengths, refused-number, answered, fits-word, exceeds-word}
+use Rattle.outcomes.proofs.OutcomeLaws.{passed, failed}
+use Rattle.limbs.proofs.StageLaws.{legal, operand-lengths}
+use Rattle.limbs.proofs.NumberLaws.{refused-operand, later, answered, fits-word, exceeds-word}
 use Rattle.limbs.proofs.to_word.Statement.{statement}
 use Rattle.limbs.proofs.to_word.Tie as tie
 
@@ -14,25 +15,22 @@ returns : tie.Need-returns
 unfolding wordOutcome
 returns c = refused-operand _ _ (c .before .before .is-operand .ensures) (c .before .if1 .taken) (c .refuse-number .ensures)
 
-bit-length-requires : tie.Need-bit-length-requires
-bit-length-requires c κs = operand-lengths _ (c .before .is-operand .ensures) (c .if1 .left)
-
 returns-2 : tie.Need-returns-2
 unfolding wordOutcome
 returns-2 c =
     let e = c .before .before .before in
-    refused-number _ (e .before .is-operand .ensures) (e .if1 .left) (failed _ _ _ (exceeds-word _ (omega (arith, c .before .before .bit-length .ensures)))) (c .refuse-number2 .ensures)
+    later _ (legal (e .before .is-operand .ensures) (e .if1 .left)) (failed _ _ (exceeds-word _ (omega (arith, c .before .before .bit-length .ensures)))) (c .refuse-number2 .ensures)
 
 word-requires : tie.Need-word-requires
 word-requires c κs =
     let e = c .before .before in
-    (operand-lengths _ (e .before .is-operand .ensures) (e .if1 .left) .0, omega (arith, c .before .bit-length .ensures))
+    (operand-lengths _ (legal (e .before .is-operand .ensures) (e .if1 .left)) .0, omega (arith, c .before .bit-length .ensures))
 
 returns-3 : tie.Need-returns-3
 unfolding wordOutcome
 returns-3 c =
     let e = c .before .before .before .before in
-    answered _ (e .before .is-operand .ensures) (e .if1 .left) (passed _ _ _ (fits-word _ (omega (arith, c .before .before .before .bit-length .ensures)))) (c .done .ensures)
+    answered _ (legal (e .before .is-operand .ensures) (e .if1 .left)) (passed _ _ (fits-word _ (omega (arith, c .before .before .before .bit-length .ensures)))) (c .done .ensures)
     (toZ-ofZ w64 _ (record { sfits = c .before .word .ok }) ∙ c .before .word .ensures)
 
 pub to-word-spec : {M : Type 1} → statement M
@@ -42,7 +40,7 @@ to-word-spec =
     (λ c κs. search needs)
     (λ c κs. search needs)
     returns
-    bit-length-requires
+    (λ c κs. operand-lengths _ (legal (c .before .is-operand .ensures) (c .if1 .left)))
     (λ c κs. search needs)
     returns-2
     word-requires

@@ -1,39 +1,39 @@
 -- `limbs::check::check_field` meets its contract. Assumes nothing.
-use mathlib.Core.Path.{_≡_, sym, ap, _∙_}
-use mathlib.Core.List.{List}
-use Rattle.words.proofs.WordLaws.{back}
-use Prim.Native.Nat.{ℕ}
-use Rattle.limbs.specs.Buffer.{Outcome}
-use Rattle.limbs.specs.Inner.{checked, Decides}
-use Rattle.limbs.specs.Operations.{operand}
-use Rattle.limbs.proofs.OutcomeLaws.{passed, failed, checked-none, checked-refused, operand-twice}
+use mathlib.Core.Path.{_≡_, sym, ap₂, _∙_}
+use lib.IntN.{ℤ, natAbs}
+use Rattle.words.proofs.WordLaws.{back, natural-mag, cast-word}
+use Rattle.outcomes.specs.Outcome.{done}
+use Rattle.outcomes.proofs.OutcomeLaws.{passed-by, failed-by}
+use Rattle.limbs.specs.Inner.{fieldOf}
+use Rattle.limbs.specs.Operations.{isField, field}
+use Rattle.limbs.proofs.StageLaws.{legal, illegal, operands-passed, operands-failed, FieldNumbers, field-numbers}
 use borrow.Author.Needs.{needs}
 use Rattle.limbs.proofs.check.check_field.Statement.{statement}
 use Rattle.limbs.proofs.check.check_field.Tie as tie
 
--- the stages of both operands, where the second is tested twice
-stages : (x y : List ℕ) {k : ℕ} → Decides (λ o. operand x (operand y (operand y o))) k → (o : Outcome) → operand x (operand y o) ≡ checked k o
-stages x y d o = ap (operand x) (sym (operand-twice y o)) ∙ d .so o
+-- the test of the field, on the numbers
+tested : (c : tie.After-is-field) → c .is-field .result ≡ isField (c .before .before .before .before .before .args .start) (c .before .before .before .before .before .args .end)
+tested c = let f = c .before .before .before .before .before .fits in rw (back (f .start), back (f .end)) at (c .is-field .ensures)
+
+numbers : (c : tie.Else2) → FieldNumbers (c .before .before .before .before .before .before .args .start) (c .before .before .before .before .before .before .args .end)
+numbers c = field-numbers _ _ (legal (tested (c .before)) (c .if2 .left))
 
 returns : tie.Need-returns
-returns c =
-    let k = c .before .check-operands .ensures in
-    record { so = λ o. stages _ _ k _ ∙ checked-refused _ _ (c .if1 .taken) ∙ sym (checked-refused _ o (c .if1 .taken)) }
+unfolding fieldOf
+returns c = sym (operands-failed _ _ _ (illegal (c .before .are-operands .ensures) (c .if1 .taken)))
 
 returns-2 : tie.Need-returns-2
-unfolding checked
-returns-2 c =
-    let k = c .before .before .before .check-operands .ensures in
-    let f = c .before .before .before .before .before .before .fits in
-    record { so = λ o. stages _ _ k _ ∙ checked-none _ (c .before .before .if1 .left) ∙ (rw (back (f .start), back (f .end)) at (c .before .is-field .ensures o)) ∙ passed _ 5 o (c .if2 .taken) }
+unfolding fieldOf field
+returns-2 c = sym (operands-passed _ _ _ (legal (c .before .before .before .are-operands .ensures) (c .before .before .if1 .left)) ∙ failed-by 5 _ (tested (c .before)) (c .if2 .taken))
 
 returns-3 : tie.Need-returns-3
-unfolding checked
+unfolding fieldOf field
 returns-3 c =
-    let k = c .before .before .before .check-operands .ensures in
     let f = c .before .before .before .before .before .before .fits in
-    record { so = λ o. stages _ _ k _ ∙ checked-none _ (c .before .before .if1 .left) ∙ (rw (back (f .start), back (f .end)) at (c .before .is-field .ensures o)) ∙ failed _ 5 o (c .if2 .left) }
+    ap₂ (λ (s e : ℤ). done (natAbs s, natAbs e)) (back (f .start)) (back (f .end))
+    ∙ sym (operands-passed _ _ _ (legal (c .before .before .before .are-operands .ensures) (c .before .before .if1 .left)) ∙ passed-by 5 _ (tested (c .before)) (c .if2 .left))
 
 pub check-field-spec : {M : Type 1} → statement M
 check-field-spec =
-    tie.close (tie.spec (λ c κs. search needs) returns (λ c κs. search needs) returns-2 returns-3)
+    tie.close
+    (tie.spec (λ c κs. search needs) returns (λ c κs. search needs) returns-2 (λ c. let f = c .before .before .before .before .before .before .fits .start in cast-word (back f ∙ natural-mag _ (numbers c .from)) (f .sfits)) (λ c. let f = c .before .before .before .before .before .before .fits .end in cast-word (back f ∙ natural-mag _ (numbers c .to)) (f .sfits)) returns-3)

@@ -1,39 +1,66 @@
 -- `limbs::check::check_rotation` meets its contract. Assumes nothing.
-use mathlib.Core.Path.{sym, ap, _∙_}
-use lib.IntN.{pos}
+use mathlib.Core.Path.{_≡_, sym, ap, ap₂, _∙_}
+use mathlib.Core.Bool.{true, not}
+use lib.IntN.{ℤ, pos, natAbs}
 use lib.Signed.{leZ}
-use Rattle.words.proofs.WordLaws.{back}
-use Rattle.limbs.specs.Inner.{checked, Decides}
-use Rattle.limbs.specs.Operations.{operand, field}
-use Rattle.limbs.proofs.OutcomeLaws.{passed, failed, checked-none, checked-refused}
-use Rattle.limbs.proofs.StageLaws.{one-field}
+use mir.Syntax.{w64}
+use mir.Val.{toZ, ofZ}
+use Rattle.words.proofs.WordLaws.{back, natural-mag, cast-word, position-tested}
+use Rattle.outcomes.specs.Outcome.{done}
+use Rattle.outcomes.proofs.OutcomeLaws.{passed, failed, passed-by, failed-by}
+use Rattle.limbs.specs.Inner.{rotationOf}
+use Rattle.limbs.specs.Operations.{isField, field, natural}
+use Rattle.limbs.proofs.StageLaws.{legal, illegal, operand-passed, operand-failed, FieldNumbers, field-numbers}
 use borrow.Author.Needs.{needs}
 use Rattle.limbs.proofs.check.check_rotation.Statement.{statement}
 use Rattle.limbs.proofs.check.check_rotation.Tie as tie
 
-decided : (c : tie.After-check-field) → let a = c .before .before in Decides (λ o. operand (a .args .x .now) (field (a .args .start) (a .args .end) o)) (c .check-field .result)
-decided c =
-    let f = c .before .before .fits in
-    one-field _ _ _ (rw (back (f .start), back (f .end)) at (c .check-field .ensures))
+-- the test of the field, on the numbers
+tested : (c : tie.After-is-field) → c .is-field .result ≡ isField (c .before .before .before .before .args .start) (c .before .before .before .before .args .end)
+tested c = let f = c .before .before .before .before .fits in rw (back (f .start), back (f .end)) at (c .is-field .ensures)
+
+numbers : (c : tie.Else2) → FieldNumbers (c .before .before .before .before .before .args .start) (c .before .before .before .before .before .args .end)
+numbers c = field-numbers _ _ (legal (tested (c .before)) (c .if2 .left))
+
+natural-count : (c : tie.Else3) → leZ (pos 0) (c .before .before .before .before .before .before .args .count) ≡ true
+natural-count c = position-tested _ (back (c .before .before .before .before .before .before .fits .count)) ∙ ap not (c .if3 .left)
 
 returns : tie.Need-returns
-returns c = record { so = λ o. decided (c .before) .so _ ∙ checked-refused _ _ (c .if1 .taken) ∙ sym (checked-refused _ o (c .if1 .taken)) }
+unfolding rotationOf
+returns c = sym (operand-failed _ _ (illegal (c .before .is-operand .ensures) (c .if1 .taken)))
 
 returns-2 : tie.Need-returns-2
-unfolding checked
-returns-2 c =
-    record {
-      so = λ o. decided (c .before .before) .so _ ∙ checked-none _ (c .before .if1 .left)
-          ∙ passed _ 5 o (sym (ap (leZ (pos 0)) (back (c .before .before .before .before .fits .count))) ∙ c .if2 .taken);
-    }
+unfolding rotationOf field
+returns-2 c = sym (operand-passed _ _ (legal (c .before .before .before .is-operand .ensures) (c .before .before .if1 .left)) ∙ failed-by 5 _ (tested (c .before)) (c .if2 .taken))
 
 returns-3 : tie.Need-returns-3
-unfolding checked
+unfolding rotationOf field natural
 returns-3 c =
-    record {
-      so = λ o. decided (c .before .before) .so _ ∙ checked-none _ (c .before .if1 .left)
-          ∙ failed _ 5 o (sym (ap (leZ (pos 0)) (back (c .before .before .before .before .fits .count))) ∙ c .if2 .left);
-    }
+    sym (operand-passed _ _ (legal (c .before .before .before .before .is-operand .ensures) (c .before .before .before .if1 .left))
+    ∙ passed-by 5 _ (tested (c .before .before)) (c .before .if2 .left)
+    ∙ failed 5 _ (position-tested _ (back (c .before .before .before .before .before .before .fits .count)) ∙ ap not (c .if3 .taken)))
+
+returns-4 : tie.Need-returns-4
+unfolding rotationOf field natural
+returns-4 c =
+    let f = c .before .before .before .before .before .before .fits in
+    let a = c .before .before .before .before .before .before .args in
+    ap₂ (λ (s e : ℤ). done (natAbs s, (natAbs e, natAbs (toZ w64 (ofZ w64 (a .count)))))) (back (f .start)) (back (f .end))
+    ∙ ap (λ (n : ℤ). done (natAbs (a .start), (natAbs (a .end), natAbs n))) (back (f .count))
+    ∙ sym (operand-passed _ _ (legal (c .before .before .before .before .is-operand .ensures) (c .before .before .before .if1 .left))
+    ∙ passed-by 5 _ (tested (c .before .before)) (c .before .if2 .left)
+    ∙ passed 5 _ (natural-count c))
 
 pub check-rotation-spec : {M : Type 1} → statement M
-check-rotation-spec = tie.close (tie.spec (λ c κs. search needs) returns returns-2 returns-3)
+check-rotation-spec =
+    tie.close
+    (tie.spec
+    (λ c κs. search needs)
+    returns
+    (λ c κs. search needs)
+    returns-2
+    returns-3
+    (λ c. let f = c .before .before .before .before .before .before .fits .start in cast-word (back f ∙ natural-mag _ (numbers (c .before) .from)) (f .sfits))
+    (λ c. let f = c .before .before .before .before .before .before .fits .end in cast-word (back f ∙ natural-mag _ (numbers (c .before) .to)) (f .sfits))
+    (λ c. let f = c .before .before .before .before .before .before .fits .count in cast-word (back f ∙ natural-mag _ (natural-count c)) (f .sfits))
+    returns-4)

@@ -5,8 +5,8 @@ use borrow.Author.Needs.{needs}
 use Rattle.limbs.proofs.run.run.Statement.{statement}
 use Rattle.limbs.proofs.run.run.Tie as tie
 
-place-requires : tie.Need-place-requires
-place-requires c κs =
+store-requires : tie.Need-store-requires
+store-requires c κs =
     let p = c .before .before .before .before .before .before .pre in
     let n = c .before .measure .ensures in
     (p .0, (p .1 .0, (p .1 .1 .0, ((p .1 .1 .1 .0 .0, omega (arith, n, limbCount-le _ _ (p .1 .1 .1 .1))), n))))
@@ -15,4 +15,4 @@ returns : tie.Need-returns
 returns c = search needs
 
 pub run-spec : {M : Type 1} → statement M
-run-spec = tie.close (tie.spec (λ c κs. search needs) place-requires (λ c. search needs) returns)
+run-spec = tie.close (tie.spec (λ c κs. search needs) store-requires (λ c. search needs) returns)

@@ -1,7 +1,8 @@
 -- `limbwords::measure::limb_of` meets its contract. Assumes nothing.
-use Prim.Native.Nat.{ℕ}
+use Prim.Native.Nat.{ℕ, _^_, _<_}
 use mathlib.Core.Path.{_≡_, sym, ap, _∙_, subst}
 use lib.IntN.{ℤ}
+use lib.ListN.{length}
 use Rattle.limbwords.specs.declared.result.Operation.{Operation}
 use Rattle.limbwords.specs.Value.{bitsFrom}
 use Rattle.limbwords.specs.Results.{meaning, Proper}
@@ -9,42 +10,9 @@ use borrow.Author.Needs.{needs}
 use Rattle.limbwords.proofs.measure.limb_of.Statement.{statement}
 use Rattle.limbwords.proofs.measure.limb_of.Tie as tie
 
-shift-left-limb-requires : tie.Need-shift-left-limb-requires
-unfolding Proper
-shift-left-limb-requires c κs =
-    let a = c .before .before .before .before .before .before in
-    (a .pre .0, (subst Proper (c .before .operation2 .given .1) (a .pre .1 .1 .1 .0), a .pre .1 .1 .1 .1))
-
-shift-right-limb-requires : tie.Need-shift-right-limb-requires
-unfolding Proper
-shift-right-limb-requires c κs =
-    let a = c .before .before .before .before .before .before in
-    (a .pre .0, (subst Proper (c .before .operation3 .given .1) (a .pre .1 .1 .1 .0), a .pre .1 .1 .1 .1))
-
-field-limb-requires : tie.Need-field-limb-requires
-unfolding Proper
-field-limb-requires c κs =
-    let a = c .before .before .before .before .before .before in
-    (a .pre .0, (subst Proper (c .before .operation4 .given .1) (a .pre .1 .1 .1 .0), a .pre .1 .1 .1 .1))
-
-copy-field-limb-requires : tie.Need-copy-field-limb-requires
-unfolding Proper
-copy-field-limb-requires c κs =
-    let a = c .before .before .before .before .before .before in
-    ((a .pre .0, a .pre .1 .0), (subst Proper (c .before .operation5 .given .1) (a .pre .1 .1 .1 .0), a .pre .1 .1 .1 .1))
-
-rotate-limb-requires : tie.Need-rotate-limb-requires
-unfolding Proper
-rotate-limb-requires c κs =
-    let a = c .before .before .before .before .before .before in
-    let p = subst Proper (c .before .operation6 .given .1) (a .pre .1 .1 .1 .0) in
-    (a .pre .0, (p .0, (p .1, a .pre .1 .1 .1 .1)))
-
-reverse-limb-requires : tie.Need-reverse-limb-requires
-unfolding Proper
-reverse-limb-requires c κs =
-    let a = c .before .before .before .before .before .before in
-    (a .pre .0, (subst Proper (c .before .operation7 .given .1) (a .pre .1 .1 .1 .0), a .pre .1 .1 .1 .1))
+-- what an arm of the match is given: x has a limb, and the numbers of the arm's operation and the index are in range
+given : (c : tie.Start) {p : Operation} → c .args .operation ≡ p → (0 < length (c .args .x .now)) × (Proper p × (c .args .j < 2 ^ 32))
+given c e = (c .pre .0, (subst Proper e (c .pre .1 .1 .1 .0), c .pre .1 .1 .1 .1))
 
 -- the operation that an arm of the match stands for
 arm : (x y z : ℤ) (at : ℕ) {o p : Operation} → o ≡ p → bitsFrom (meaning p x y z) at ≡ bitsFrom (meaning o x y z) at
@@ -83,6 +51,7 @@ unfolding meaning
 returns-8 c = c .reverse-limb .ensures ∙ arm _ _ _ _ (c .before .before .operation7 .given .1)
 
 pub limb-of-spec : {M : Type 1} → statement M
+unfolding Proper
 limb-of-spec =
     tie.close
     (tie.spec
@@ -91,17 +60,17 @@ limb-of-spec =
     (λ c. search needs)
     (λ c κs. search needs)
     (λ c. search needs)
-    shift-left-limb-requires
+    (λ c κs. given (c .before .before .before .before .before .before) (c .before .operation2 .given .1))
     (λ c. search needs)
-    shift-right-limb-requires
+    (λ c κs. given (c .before .before .before .before .before .before) (c .before .operation3 .given .1))
     (λ c. search needs)
-    field-limb-requires
+    (λ c κs. given (c .before .before .before .before .before .before) (c .before .operation4 .given .1))
     (λ c. search needs)
-    copy-field-limb-requires
+    (λ c κs. let a = c .before .before .before .before .before .before in let g = given a (c .before .operation5 .given .1) in ((g .0, a .pre .1 .0), g .1))
     (λ c. search needs)
-    rotate-limb-requires
+    (λ c κs. given (c .before .before .before .before .before .before) (c .before .operation6 .given .1))
     (λ c. search needs)
-    reverse-limb-requires
+    (λ c κs. given (c .before .before .before .before .before .before) (c .before .operation7 .given .1))
     returns
     returns-2
     returns-3

@@ -1,20 +1,19 @@
 -- `limbwords::measure::measure` meets its contract. Assumes nothing.
+use native.Mathlib.Omega.{arith}
 use Prim.Native.Nat.{_*_, _<_}
-use mathlib.Core.Path.{_≡_, sym, subst, _∙_}
+use mathlib.Core.Path.{_≡_, sym, subst}
 use lib.IntN.{ℤ}
 use Rattle.bits.specs.Testbit.{bitLength}
 use Rattle.limbwords.specs.declared.result.Operation.{Operation}
 use Rattle.limbwords.specs.Value.{limbCount}
 use Rattle.limbwords.specs.Results.{meaning}
-use Rattle.limbwords.proofs.MeasureLaws.{counted-one}
+use Rattle.limbwords.proofs.MeasureLaws.{one-limb}
 use borrow.Author.Needs.{needs}
 use Rattle.limbwords.proofs.measure.measure.Statement.{statement}
 use Rattle.limbwords.proofs.measure.measure.Tie as tie
 
 returns : tie.Need-returns
-returns c =
-    let a = c .before .before .before .before in
-    sym (c .if1 .taken) ∙ counted-one _ (a .args .enough) (c .if1 .taken) (a .pre .1 .1 .1 .1)
+returns c = let h = c .before .before .before .before .pre .1 .1 .1 .1 in one-limb _ (omega arith)
 
 -- the operation that an arm of the match stands for
 arm : (P : ℤ → Type 0) (x y z : ℤ) {o p : Operation} → o ≡ p → P (meaning o x y z) → P (meaning p x y z)

@@ -6,10 +6,10 @@ use Rattle.ql.proofs.widths.run.Statement.{statement}
 use Rattle.ql.proofs.widths.run.Tie as tie
 
 abbrev Inv-loop : tie.InvT-loop
-Inv-loop given width₀ width = Unit {0}
+Inv-loop request width₀ width = Unit {0}
 
 abbrev μ-loop : tie.MeasureT-loop
-μ-loop given width₀ width = 63 - width
+μ-loop request width₀ width = 63 - width
 
 returns : tie.Need-returns Inv-loop μ-loop
 returns c = search needs
@@ -32,7 +32,7 @@ run-spec =
     (λ c κs. search needs)
     returns
     loop-holds
-    (λ c κs. search needs)
+    (λ c κs. omega arith)
     (λ c. omega arith)
     (λ c. omega arith)
     loop-again
