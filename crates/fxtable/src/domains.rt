@@ -1,4 +1,4 @@
-// Where an argument must lie, beyond being a fixnum.
+// Where an argument must lie, beyond being a fixnum; `Domain::Fixnum` asks for no more.
 ghost use mathlib.Core.Path.{_≡_};
 ghost use mathlib.Core.Bool.{true, _&&_};
 ghost use Prim.Native.Nat.{_≤_};
@@ -31,7 +31,8 @@ fn below(x: i64, size: i64) -> bool
     0 <= x && x < size
 }
 
-// Whether argument i lies in its domain. One that may be any fixnum is not read.
+// Whether argument i lies in its domain. One that may be any fixnum is not read. A rotation's count comes behind a start and an end
+// that are in order, so that the field's size is a word.
 fn accepts(domain: Domain, width: u64, args: [i64; 4], i: u64) -> bool
     requires { ⌜ (domains.isWidth width ≡ true) × (i ≤ 3) ⌝ }
     requires { ⌜ (domain ≡ Rotation → range.within (pos 0) (domains.arg args 1) (domains.arg args 2) ≡ true) ⌝ }
