@@ -18,7 +18,7 @@ use Rattle.fxtable.specs.Answers.{answer}
 use Rattle.bits.specs.Range.{within}
 use Rattle.fxtable.specs.Domains.{isWidth, arg, accepts, inDomainsFrom, inDomains}
 use Rattle.fxtable.specs.Operations.{resultsOf, every, one}
-use Rattle.fxtable.specs.Table.{row, rows, isCode, rowOf, never}
+use Rattle.fxtable.specs.Table.{row, rows, isCode, rowOf}
 use Rattle.fxtable.specs.Calls.{counted, isCount, allFixnums, outcome, fixnumAnswer}
 use Rattle.bits.specs.FieldList.{rotate}
 use Rattle.fixnum_laws.specs.Lists.{answerOf, isDone}
@@ -102,7 +102,7 @@ module _ (w : ℕ) (a : isWidth w ≡ true) where
 
 module _ (w : ℕ) (a : isWidth w ≡ true) where
   -- an operation of one argument that is never refused
-  pub one-answer : (code : ℕ) (g : ℤ → ℤ) → isCode code ≡ true → rowOf code ≡ row 1 1 [] never (one g)
+  pub one-answer : (code : ℕ) (g : ℤ → ℤ) → isCode code ≡ true → rowOf code ≡ row 1 1 [] 0 (one g)
       → (x : ℤ) → fits w x ≡ true → answerOf w code (x ∷ []) ≡ answer (done (g x, pos 0))
   unfolding answerOf counted isCount inDomains inDomainsFrom arg allFixnums
   one-answer code g k e x f =
@@ -111,7 +111,7 @@ module _ (w : ℕ) (a : isWidth w ≡ true) where
       ∙ sym (every-outcome (λ ys. g (arg ys 0)) w code (x ∷ []) e)
 
   -- an operation of up to four arguments that is never refused
-  pub every-answer : (code : ℕ) (g : List ℤ → ℤ) → isCode code ≡ true → rowOf code ≡ row 0 4 [] never (every g)
+  pub every-answer : (code : ℕ) (g : List ℤ → ℤ) → isCode code ≡ true → rowOf code ≡ row 0 4 [] 0 (every g)
       → (xs : List ℤ) → length xs ≤ 4 → allFixnums w xs ≡ true → answerOf w code xs ≡ answer (done (g xs, pos 0))
   unfolding answerOf counted isCount inDomains inDomainsFrom
   every-answer code g k e xs l f =

@@ -23,7 +23,7 @@ use Rattle.outcomes.specs.Outcome.{done, refuse}
 use Rattle.fxtable.specs.Answers.{answer}
 use Rattle.fxtable.specs.Domains.{isWidth}
 use Rattle.fxtable.specs.Operations.{every}
-use Rattle.fxtable.specs.Table.{row, rows, isCode, rowOf, never}
+use Rattle.fxtable.specs.Table.{row, rows, isCode, rowOf}
 use Rattle.fxtable.specs.Calls.{allFixnums}
 use Rattle.fixnum_laws.specs.Lists.{answerOf, answerTo, handOn, runAll, isDone, turned, ListStatement}
 use Rattle.bits.proofs.Booleans.{both-left, both-right, and-second}
@@ -163,7 +163,7 @@ module _ (w : ℕ) (a : isWidth w ≡ true) (start end : ℕ) (h : start < end) 
       cc (agree calls x (both-left (fits w x) (allFixnums w xs) f), map-agree calls xs (both-right (fits w x) (allFixnums w xs) f))
 
   -- codes 26, 27 and 28 alike
-  over-all : (calls : List FieldCall) (code : ℕ) (op : Bool → Bool → Bool) (e : Bool) → isCode code ≡ true → rowOf code ≡ row 0 4 [] never (every (bitwiseAll op e))
+  over-all : (calls : List FieldCall) (code : ℕ) (op : Bool → Bool → Bool) (e : Bool) → isCode code ≡ true → rowOf code ≡ row 0 4 [] 0 (every (bitwiseAll op e))
       → (xs : List ℤ) → length xs ≤ 4 → allFixnums w xs ≡ true
       → answerOf w code (map (runAll w start end calls) xs) ≡ answer (done (runAll w start end calls (answerOf w code xs .first), pos 0))
   unfolding answer

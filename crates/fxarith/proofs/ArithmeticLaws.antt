@@ -9,7 +9,7 @@ use lib.ListN.{length}
 use Rattle.fxtable.specs.Answers.{answer}
 use Rattle.fxtable.specs.Domains.{arg}
 use Rattle.fxtable.specs.Operations.{resultsOf, every, minus}
-use Rattle.fxtable.specs.Table.{row, rows, rowOf, assertion}
+use Rattle.fxtable.specs.Table.{row, rows, rowOf}
 use Rattle.fxtable.specs.Calls.{counted, isCount, checked, outcome}
 use Rattle.fxtable.proofs.CallLaws.{between}
 use Rattle.fxtable.proofs.MeaningLaws.{by-row}
@@ -37,7 +37,7 @@ minus-two [] h = refl
 minus-two (x ∷ []) h = absurd (omega arith)
 minus-two (x ∷ y ∷ xs) h = refl
 
-minus-row : (code : ℕ) → code ≡ 15 → rowOf code ≡ row 1 2 [] assertion (every minus)
+minus-row : (code : ℕ) → code ≡ 15 → rowOf code ≡ row 1 2 [] 5 (every minus)
 unfolding rowOf rows
 minus-row code e = ap rowOf e
 

@@ -10,8 +10,8 @@ use Rattle.words.proofs.PartBounds.{signed, sum-parts, product-parts}
 use Rattle.bits.specs.Testbit.{fits}
 use Rattle.fxtable.specs.Domains.{arg}
 use Rattle.fxtable.specs.Operations.{carry}
-use Rattle.fxtable.specs.Table.{row, rows, rowOf, never}
-use Rattle.fxtable.specs.Calls.{Accepted}
+use Rattle.fxtable.specs.Table.{row, rows, rowOf}
+use Rattle.fxtable.specs.Inner.{Accepted}
 use Rattle.fxtable.proofs.CallLaws.{width-bounds}
 use Rattle.fxtable.proofs.TableLaws.{from-to}
 use Rattle.fxtable.proofs.ArgumentLaws.{fixnum-at}
@@ -21,9 +21,9 @@ use Rattle.fxtable.proofs.ArgumentLaws.{fixnum-at}
 abbrev pub signedSum : ℕ → ℤ → ℤ → ℤ → ℤ
 signedSum code x y z = signed (eqb code 23) (signed (eqb code 23) x y) z
 
-pub sum-row : (code : ℕ) → 22 ≤ code → code ≤ 23 → rowOf code ≡ row 3 3 [] never (carry (signedSum code))
+pub sum-row : (code : ℕ) → 22 ≤ code → code ≤ 23 → rowOf code ≡ row 3 3 [] 0 (carry (signedSum code))
 unfolding rows rowOf
-sum-row code h k = from-to (λ c. rowOf c ≡ row 3 3 [] never (carry (signedSum c))) 22 2 (refl, (refl, tt)) code h (omega arith)
+sum-row code h k = from-to (λ c. rowOf c ≡ row 3 3 [] 0 (carry (signedSum c))) 22 2 (refl, (refl, tt)) code h (omega arith)
 
 least-three : (code : ℕ) → (22 ≤ code) × (code ≤ 24) → 2 < rowOf code .least
 unfolding rows rowOf

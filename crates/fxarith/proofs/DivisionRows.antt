@@ -11,7 +11,7 @@ use Rattle.bits.specs.Division.{div, «mod», div0, mod0}
 use Rattle.fxtable.specs.declared.domains.Domain.the-variants.{Fixnum, Divisor}
 use Rattle.fxtable.specs.Domains.{domainAt}
 use Rattle.fxtable.specs.Operations.{Results, two, pair}
-use Rattle.fxtable.specs.Table.{Row, row, rows, rowOf, never, restriction}
+use Rattle.fxtable.specs.Table.{Row, row, rows, rowOf}
 use Rattle.fxtable.proofs.DomainLaws.{domainOf}
 use Rattle.fxtable.proofs.TableLaws.{from-to}
 
@@ -34,17 +34,17 @@ pub takes-divisor : (code : ℕ) → (16 ≤ code) × (code ≤ 21) → domainOf
 unfolding rows rowOf domainAt
 takes-divisor code h = from-to (λ c. domainOf c 1 ≡ Divisor) 16 6 (refl, (refl, (refl, (refl, (refl, (refl, tt)))))) code (h .0) (omega arith)
 
-pub quotient-row : {code : ℕ} → (code ≡ 16) ⊎ (code ≡ 19) → rowOf code ≡ divisionRow restriction (two (quotientOf code))
+pub quotient-row : {code : ℕ} → (code ≡ 16) ⊎ (code ≡ 19) → rowOf code ≡ divisionRow 6 (two (quotientOf code))
 unfolding rowOf rows
-quotient-row = either (λ (c : ℕ). rowOf c ≡ divisionRow restriction (two (quotientOf c))) refl refl
+quotient-row = either (λ (c : ℕ). rowOf c ≡ divisionRow 6 (two (quotientOf c))) refl refl
 
-pub remainder-row : {code : ℕ} → (code ≡ 17) ⊎ (code ≡ 20) → rowOf code ≡ divisionRow never (two (remainderOf code))
+pub remainder-row : {code : ℕ} → (code ≡ 17) ⊎ (code ≡ 20) → rowOf code ≡ divisionRow 0 (two (remainderOf code))
 unfolding rowOf rows
-remainder-row = either (λ (c : ℕ). rowOf c ≡ divisionRow never (two (remainderOf c))) refl refl
+remainder-row = either (λ (c : ℕ). rowOf c ≡ divisionRow 0 (two (remainderOf c))) refl refl
 
-pub both-row : {code : ℕ} → (code ≡ 18) ⊎ (code ≡ 21) → rowOf code ≡ divisionRow restriction (pair (quotientOf code) (remainderOf code))
+pub both-row : {code : ℕ} → (code ≡ 18) ⊎ (code ≡ 21) → rowOf code ≡ divisionRow 6 (pair (quotientOf code) (remainderOf code))
 unfolding rowOf rows
-both-row = either (λ (c : ℕ). rowOf c ≡ divisionRow restriction (pair (quotientOf c) (remainderOf c))) refl refl
+both-row = either (λ (c : ℕ). rowOf c ≡ divisionRow 6 (pair (quotientOf c) (remainderOf c))) refl refl
 
 -- the codes that are left for both
 pub both-code : (code : ℕ) → (16 ≤ code) × (code ≤ 21) → ((code ≡ 16) ⊎ (code ≡ 19) → ⊥) → ((code ≡ 17) ⊎ (code ≡ 20) → ⊥)

@@ -2,10 +2,11 @@
 ghost use mathlib.Core.Path.{_≡_};
 ghost use Prim.Native.Nat.{_≤_};
 ghost use Rattle.fxtable.specs.Answers.{answer};
-ghost use Rattle.fxtable.specs.Calls.{Accepted, counted, outcome};
+ghost use Rattle.fxtable.specs.Calls.{counted, outcome};
+ghost use Rattle.fxtable.specs.Inner.{Accepted};
 ghost use mathlib.Core.List.{[]};
 ghost use Rattle.fxtable.specs.Operations as operations;
-ghost use Rattle.fxtable.specs.Table.{row, rowOf, never};
+ghost use Rattle.fxtable.specs.Table.{row, rowOf};
 ghost use Rattle.fxarith.specs.Relations.{holds};
 use super::chain::Relation;
 use super::chain::chain;
@@ -18,7 +19,7 @@ use words::sign::absolute;
 
 fn relation(code: u64) -> Relation
     requires { ⌜ (1 ≤ code) × (code ≤ 5) ⌝ }
-    ensures { λ r. ⌜ rowOf code ≡ row 2 4 [] never (operations.question (operations.chain (holds r))) ⌝ }
+    ensures { λ r. ⌜ rowOf code ≡ row 2 4 [] 0 (operations.question (operations.chain (holds r))) ⌝ }
 {
     match code {
         1 => Relation::Equal,

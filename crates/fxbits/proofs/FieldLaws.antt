@@ -20,7 +20,7 @@ use Rattle.words.proofs.WordLaws.{fits-mag}
 use Rattle.fxtable.specs.declared.domains.Domain.the-variants.{Position, FieldEnd}
 use Rattle.fxtable.specs.Domains.{arg, domainAt}
 use Rattle.fxtable.specs.Table.{rows, rowOf}
-use Rattle.fxtable.specs.Calls.{Accepted}
+use Rattle.fxtable.specs.Inner.{Accepted}
 use Rattle.fxtable.proofs.DomainLaws.{domainOf}
 use Rattle.fxtable.proofs.ArgumentLaws.{FieldArguments, position-lt, field}
 use Rattle.fxtable.proofs.TableLaws.{from-to}

@@ -2,7 +2,8 @@
 ghost use Prim.Native.Nat.{_≤_};
 ghost use mathlib.Core.Path.{_≡_};
 ghost use Rattle.fxtable.specs.Answers.{answer};
-ghost use Rattle.fxtable.specs.Calls.{Accepted, counted, outcome};
+ghost use Rattle.fxtable.specs.Calls.{counted, outcome};
+ghost use Rattle.fxtable.specs.Inner.{Accepted};
 use fxtable::answer::Answer;
 use fxtable::answer::done;
 use fxtable::answer::question;

@@ -17,7 +17,8 @@ use Rattle.fxtable.specs.declared.domains.Domain.{Domain}
 use Rattle.fxtable.specs.declared.domains.Domain.the-variants.{Divisor, Position, FieldEnd, NewBit, SignedDistance, Distance, Rotation}
 use Rattle.fxtable.specs.Domains.{arg, accepts}
 use Rattle.fxtable.specs.Table.{rowOf}
-use Rattle.fxtable.specs.Calls.{Accepted, isCount}
+use Rattle.fxtable.specs.Calls.{isCount}
+use Rattle.fxtable.specs.Inner.{Accepted}
 use Rattle.fxtable.proofs.CallLaws.{between, width-bounds, fits-arg}
 use Rattle.fxtable.proofs.DomainLaws.{domainOf, in-domains}
 

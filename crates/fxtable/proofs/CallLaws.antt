@@ -24,7 +24,8 @@ use Rattle.fxtable.specs.declared.answer.Answer.{Answer}
 use Rattle.fxtable.specs.Answers.{answer}
 use Rattle.fxtable.specs.Domains.{leastWidth, largestWidth, isWidth, arg}
 use Rattle.fxtable.specs.Table.{isCode}
-use Rattle.fxtable.specs.Calls.{Accepted, counted, allFixnums, checked, outcome, fixnumAnswer}
+use Rattle.fxtable.specs.Calls.{counted, allFixnums, checked, outcome, fixnumAnswer}
+use Rattle.fxtable.specs.Inner.{Accepted}
 
 or-true : (b : Bool) → b || true ≡ true
 or-true true = refl

@@ -18,8 +18,8 @@ use Rattle.outcomes.specs.Outcome.{done}
 use Rattle.fxtable.specs.declared.answer.Answer.{Answer}
 use Rattle.fxtable.specs.declared.fold.Fold.{Fold}
 use Rattle.fxtable.specs.Answers.{answer}
-use Rattle.fxtable.specs.Folds.{step}
-use Rattle.fxtable.specs.Table.{row, rowOf, never}
+use Rattle.fxtable.specs.Inner.{step}
+use Rattle.fxtable.specs.Table.{row, rowOf}
 use Rattle.fxtable.specs.Calls.{counted, allFixnums, outcome}
 use Rattle.fxtable.proofs.CallLaws.{done-word}
 use Rattle.fxtable.proofs.MeaningLaws.{every-outcome}
@@ -68,6 +68,6 @@ from-fold op x (y ∷ ys) = from-fold op (bitwise op x y) ys
 
 -- the answer of a code whose result is a fold, from the word that holds it
 pub fold-answer : (g : List ℤ → ℤ) (fold : Fold) (first : ℤ) (w code : ℕ) (ys : List ℤ) {least most : ℕ} {r : Answer} {y : ℤ}
-    → rowOf code ≡ row least most [] never (every g) → g ys ≡ foldFrom (step fold) first ys
+    → rowOf code ≡ row least most [] 0 (every g) → g ys ≡ foldFrom (step fold) first ys
     → r ≡ answer (done (toZ w64 (ofZ w64 y), pos 0)) → mag y < 2 ^ 63 → y ≡ foldFrom (step fold) first ys → r ≡ answer (outcome w code ys)
 fold-answer g fold first w code ys e q d h p = done-word d h (p ∙ sym q) ∙ every-outcome g w code ys e

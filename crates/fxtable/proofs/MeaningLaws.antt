@@ -10,8 +10,9 @@ use Rattle.fxtable.specs.declared.domains.Domain.{Domain}
 use Rattle.fxtable.specs.Answers.{answer}
 use Rattle.fxtable.specs.Domains.{arg}
 use Rattle.fxtable.specs.Operations.{single, double, resultsOf, every}
-use Rattle.fxtable.specs.Table.{Row, row, rowOf, never}
-use Rattle.fxtable.specs.Calls.{Accepted, counted, isCount, checked, outcome}
+use Rattle.fxtable.specs.Table.{Row, row, rowOf}
+use Rattle.fxtable.specs.Calls.{counted, isCount, checked, outcome}
+use Rattle.fxtable.specs.Inner.{Accepted}
 use Rattle.fxtable.proofs.CallLaws.{arg-exactly, never-checked}
 
 pub outcome-row : {r : Row} (w code : ℕ) (ys : List ℤ) → rowOf code ≡ r → outcome w code ys ≡ checked (r .overflow) w (resultsOf (r .results) w ys)
@@ -28,7 +29,7 @@ pub by-row : {r : Row} {y : ℤ × ℤ} (w code : ℕ) (ys : List ℤ) → rowOf
 by-row {r} w code ys e k = sym (ap answer (outcome-row w code ys e ∙ ap (checked (r .overflow) w) k))
 
 -- one result of all arguments, never refused
-pub every-outcome : (g : List ℤ → ℤ) {least most : ℕ} {domains : List Domain} (w code : ℕ) (ys : List ℤ) → rowOf code ≡ row least most domains never (every g)
+pub every-outcome : (g : List ℤ → ℤ) {least most : ℕ} {domains : List Domain} (w code : ℕ) (ys : List ℤ) → rowOf code ≡ row least most domains 0 (every g)
     → answer (done (g ys, pos 0)) ≡ answer (outcome w code ys)
 unfolding resultsOf
 every-outcome g w code ys e = never-checked w (g ys, pos 0) ∙ by-row w code ys e refl

@@ -3,9 +3,7 @@
 --   checked overflow w results         ==  the results, or the overflow refusal where the first is no fixnum; 0: it always is one
 --   outcome w code xs                  ==  what an operation comes to, on arguments that no stage refuses
 --   fixnumAnswer w code args count     ==  the answer of the call
---   Accepted w code args count         ==  no refusal from 1 to 5 is given
 use Prim.Native.Nat.{ℕ}
-use mathlib.Core.Path.{_≡_}
 use mathlib.Core.Bool.{Bool, true, _&&_, _||_}
 use mathlib.Core.List.{List, [], _∷_}
 use lib.Dec.{leb, eqb}
@@ -44,9 +42,3 @@ fixnumAnswer w code args count =
     (guard (allFixnums w (counted args count)) 4
     (guard (inDomains (rowOf code .domains) w (counted args count)) 5
     (outcome w code (counted args count)))))))
-
-pub record Accepted (w code : ℕ) (args : List ℤ) (count : ℕ) : Type 0 where
-  pub width : isWidth w ≡ true
-  pub arity : isCount code count ≡ true
-  pub fixnums : allFixnums w (counted args count) ≡ true
-  pub domains : inDomains (rowOf code .domains) w (counted args count) ≡ true

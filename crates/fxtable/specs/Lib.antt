@@ -3,4 +3,4 @@ pub mod Domains
 pub mod Operations
 pub mod Table
 pub mod Calls
-pub mod Folds
+pub mod Inner

@@ -2,7 +2,7 @@
 ghost use mathlib.Core.Path.{_≡_};
 ghost use Prim.Native.Nat.{_≤_};
 ghost use Rattle.fxtable.specs.Operations as operations;
-ghost use Rattle.fxtable.specs.Folds.{step};
+ghost use Rattle.fxtable.specs.Inner.{step};
 ghost use Rattle.fxtable.specs.Calls.{counted};
 use words::logical::and;
 use words::logical::ior;

@@ -12,7 +12,7 @@ use Rattle.bits.proofs.LengthLaws.{fits-length}
 use Rattle.bits.proofs.FitsLaws.{is-true}
 use Rattle.words.proofs.Digitwise.{digit-testbit}
 use Rattle.outcomes.specs.Outcome.{Outcome, done, refuse}
-use Rattle.limbwords.specs.Value.{bitsFrom}
+use Rattle.limbwords.specs.Results.{bitsFrom}
 use Rattle.limbwords.proofs.LimbLaws.{testbit-bitsFrom}
 use Rattle.limbs.specs.declared.Number.{Number}
 use Rattle.limbs.specs.Buffer.{number}

@@ -16,7 +16,8 @@ use Rattle.bits.specs.Division.{modℕ}
 use Rattle.bits.proofs.TestbitLaws.{by-lt}
 use Rattle.bits.proofs.ShiftLaws.{shiftRight-zero, shiftLeft-zero-l}
 use Rattle.bits.proofs.LengthLaws.{bitLength-le}
-use Rattle.limbwords.specs.Value.{value, bitsFrom, limbsOf, limbCount}
+use Rattle.limbwords.specs.Value.{value, limbsOf, limbCount}
+use Rattle.limbwords.specs.Results.{bitsFrom}
 use Rattle.outcomes.specs.Outcome.{done, refuse}
 use Rattle.outcomes.proofs.OutcomeLaws.{passed, failed}
 use Rattle.limbs.specs.Operations.{mostLimbs, isOperand, sized}

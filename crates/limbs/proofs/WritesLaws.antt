@@ -16,12 +16,15 @@ use Rattle.bits.proofs.LengthLaws.{fits-length}
 use Rattle.bits.proofs.FitsLaws.{holds}
 use Rattle.bits.proofs.ShiftLaws.{shiftRight-zero, shiftRight-compose}
 use Rattle.outcomes.specs.Outcome.{Outcome, done, refuse, mapDone, refusalOf}
-use Rattle.outcomes.specs.Buffer.{fitted, afterwards, countOf, Puts}
+use Rattle.outcomes.specs.Buffer.{fitted, afterwards, countOf}
+use Rattle.outcomes.specs.Puts.{Puts}
 use Rattle.outcomes.proofs.BufferLaws.{fitted-room, fitted-no-room, laid-part, read-back, countOf-room, afterwards-length}
-use Rattle.limbwords.specs.Value.{bitsFrom, limbAt, limbsOf, limbCount, shortest}
+use Rattle.limbwords.specs.Value.{limbsOf, limbCount, shortest}
+use Rattle.limbwords.specs.Results.{bitsFrom, limbAt}
 use Rattle.limbwords.proofs.ValueLaws.{length-shortest, limbCount-positive}
 use Rattle.limbs.specs.declared.Written.{Written}
-use Rattle.limbs.specs.Buffer.{stored, refusal, written, Writes}
+use Rattle.limbs.specs.Buffer.{stored, written, Writes}
+use Rattle.limbs.specs.Inner.{refusal}
 use Rattle.limbs.specs.Operations.{mostLimbs, isOperand}
 
 pub writes-as : {o p : Outcome ℤ} {out out′ : List ℕ} {first : ℕ} {r : Written} → o ≡ p → Writes p out first r out′ → Writes o out first r out′

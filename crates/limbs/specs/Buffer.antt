@@ -1,6 +1,5 @@
 -- What a call makes of its outcome: its answer, and the output buffer afterwards, which is 01's work page.
 --   stored o out first         ==  the shortest limbs of the outcome's integer, or its refusal, or refusal 8 where they do not fit
---   refusal k                  ==  the answer of a refused call
 --   written o out first        ==  the answer: the refusal number, 0 for done, and how many limbs are written
 --   Writes o out first r out′  ==  r is the answer, and out′ the buffer afterwards
 --   number o                   ==  the answer of a call that writes nothing
@@ -16,9 +15,6 @@ use Rattle.limbs.specs.declared.Number.{Number}
 
 unfoldable pub stored : Outcome ℤ → List ℕ → ℕ → Outcome (List ℕ)
 stored o out first = fitted (mapDone shortest o) out first
-
-unfoldable pub refusal : ℕ → Written
-refusal k = record { refusal = k; length = 0 }
 
 unfoldable pub written : Outcome ℤ → List ℕ → ℕ → Written
 written o out first = record { refusal = refusalOf (stored o out first); length = countOf (stored o out first) }

@@ -1,6 +1,9 @@
--- What the checks answer, as an outcome: the unsigned numbers that the code goes on with, or the refusal. No public call's contract cites these.
+-- What the functions inside `limbs` promise each other: a check answers, as an outcome, the unsigned numbers that the code goes on with, or
+-- the refusal. No public call's contract cites these.
+--   refusal k     ==  the answer of a refused call
 use Prim.Native.Nat.{ℕ}
 use Rattle.outcomes.specs.Outcome.{Outcome, done, refuse}
+use Rattle.limbs.specs.declared.Written.{Written}
 use Rattle.limbs.specs.declared.check.Natural.{Natural}
 use Rattle.limbs.specs.declared.check.Field.{Field}
 use Rattle.limbs.specs.declared.check.Rotation.{Rotation}
@@ -21,3 +24,6 @@ rotationOf (Rotation.Refused k) = refuse k
 unfoldable pub newBitOf : NewBit → Outcome (ℕ × ℕ)
 newBitOf (NewBit.Legal position bit) = done (position, bit)
 newBitOf (NewBit.Refused k) = refuse k
+
+unfoldable pub refusal : ℕ → Written
+refusal k = record { refusal = k; length = 0 }

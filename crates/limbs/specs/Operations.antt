@@ -30,13 +30,6 @@ mostLimbs = 1024
 unfoldable pub isOperand : List ℕ → Bool
 isOperand xs = leb 1 (length xs) && leb (length xs) mostLimbs
 
-module _ {A : Type 0} where
-  unfoldable pub operand : List ℕ → Outcome A → Outcome A
-  operand xs o = guard (isOperand xs) 7 o
-
-  unfoldable pub natural : ℤ → Outcome A → Outcome A
-  natural n o = guard (leZ (pos 0) n) 5 o
-
 unfoldable pub isField : ℤ → ℤ → Bool
 isField start end = within (pos 0) start end && leZ end (pos 32767)
 
@@ -44,6 +37,12 @@ unfoldable pub isNewBit : ℤ → ℤ → Bool
 isNewBit k bit = within (pos 0) k (pos 32766) && within (pos 0) bit (pos 1)
 
 module _ {A : Type 0} where
+  unfoldable pub operand : List ℕ → Outcome A → Outcome A
+  operand xs o = guard (isOperand xs) 7 o
+
+  unfoldable pub natural : ℤ → Outcome A → Outcome A
+  natural n o = guard (leZ (pos 0) n) 5 o
+
   unfoldable pub field : ℤ → ℤ → Outcome A → Outcome A
   field start end o = guard (isField start end) 5 o
 

@@ -1,7 +1,8 @@
 // What a call answers.
 ghost use mathlib.Core.Path.{_≡_};
 ghost use Rattle.outcomes.specs.Outcome as outcome;
-ghost use Rattle.limbs.specs.Buffer.{refusal, number};
+ghost use Rattle.limbs.specs.Buffer.{number};
+ghost use Rattle.limbs.specs.Inner.{refusal};
 use super::Number;
 use super::Written;
 

@@ -23,7 +23,8 @@ use Rattle.words.proofs.CountWords.{bitCount-mag}
 use Rattle.bits.proofs.LengthLaws.{bitLength-le, mag-lt, bitLength-least-bits, testbit-top}
 use Rattle.bits.proofs.CountLaws.{onesBelow-ext, onesBelow-le, onesBelow-split, ones-onesBelow, firstBitSet-unique, firstBitSet-none}
 use Rattle.words.proofs.Digitwise.{testbit-digitwise, xor-digitwise}
-use Rattle.limbwords.specs.Value.{value, bitsFrom}
+use Rattle.limbwords.specs.Value.{value}
+use Rattle.limbwords.specs.Results.{bitsFrom}
 use Rattle.limbwords.proofs.ValueLaws.{small-bits, testbit-value, value-length}
 use Rattle.limbwords.proofs.LimbLaws.{bitsFrom-lt, testbit-bitsFrom, word-ext, limb-value, bitsFrom-above, length-below}
 

@@ -13,7 +13,7 @@ use Rattle.bits.proofs.TestbitLaws.{by-lt, testbit-zero}
 use Rattle.bits.proofs.ShiftLaws.{testbit-shiftLeft-ge}
 use Rattle.bits.proofs.FieldLaws.{inField-true, inField-lt, inField-ge, by-field, testbit-setField, testbit-bitField}
 use Rattle.words.proofs.RotateWords.{rotate-low, rotate-high}
-use Rattle.limbwords.specs.Value.{bitsFrom, limbAt}
+use Rattle.limbwords.specs.Results.{bitsFrom, limbAt}
 use Rattle.limbwords.proofs.LimbLaws.{testbit-bitsFrom, word-ext}
 
 -- ---- one bit

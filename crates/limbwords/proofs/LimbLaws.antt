@@ -18,7 +18,8 @@ use Rattle.bits.proofs.LengthLaws.{bitLength-least-bits}
 use Rattle.bits.proofs.ShiftLaws.{shiftRight-above}
 use Rattle.bits.proofs.ModLaws.{modℕ-lt}
 use Rattle.words.proofs.FieldWords.{testbit-modℕ-lt, testbit-mod-lt, testbit-div, testbit-digits}
-use Rattle.limbwords.specs.Value.{value, bitsFrom}
+use Rattle.limbwords.specs.Value.{value}
+use Rattle.limbwords.specs.Results.{bitsFrom}
 use Rattle.limbwords.proofs.ValueLaws.{pos-injective, testbit-value, testbit-value-sign, small-bits}
 
 pub bitsFrom-lt : (z : ℤ) (at : ℕ) → bitsFrom z at < 2 ^ 32

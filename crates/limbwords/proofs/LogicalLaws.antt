@@ -18,7 +18,8 @@ use Rattle.bits.proofs.ShiftLaws.{shiftRight-zero, shiftRight-not}
 use Rattle.bits.proofs.LogicalLaws.{testbit-not, testbit-bitwise, testbit-if}
 use Rattle.bits.proofs.Booleans.{all₃}
 use Rattle.words.proofs.Digitwise.{testbit-digitwise, and-digitwise, ior-digitwise}
-use Rattle.limbwords.specs.Value.{value, bitsFrom, limbAt}
+use Rattle.limbwords.specs.Value.{value}
+use Rattle.limbwords.specs.Results.{bitsFrom, limbAt}
 use Rattle.limbwords.proofs.LimbLaws.{bitsFrom-lt, testbit-bitsFrom, word-ext, limb-value}
 
 pub bitsFrom-not : (z : ℤ) (at : ℕ) → 4294967295 - bitsFrom z at ≡ bitsFrom (bitwiseNot z) at

@@ -11,7 +11,7 @@ use Rattle.bits.specs.Shift.{shiftLeft, shiftRight}
 use Rattle.bits.specs.Division.{modℕ}
 use Rattle.bits.proofs.TestbitLaws.{testbit-zero}
 use Rattle.bits.proofs.ShiftLaws.{testbit-shiftLeft, shiftRight-compose, shiftRight-shiftLeft-le, shiftRight-shiftLeft-ge}
-use Rattle.limbwords.specs.Value.{bitsFrom}
+use Rattle.limbwords.specs.Results.{bitsFrom}
 use Rattle.limbwords.proofs.LimbLaws.{word-ext, bitsFrom-join}
 
 -- only the integer above the position counts

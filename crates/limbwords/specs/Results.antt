@@ -1,14 +1,18 @@
--- What the code's description of a result means, on the values of up to three operands.
+-- What the code's description of a result means, on the values of up to three operands, and the limbs of an integer by index. No public
+-- call's contract cites these.
 --   logicOf l            ==  the Boolean operation
 --   meaning r x y z      ==  the integer that r describes
 --   Proper r             ==  the numbers of r are what the limb functions can work with
 --   continued n          ==  the limb that continues the top bit of the limb n
-use Prim.Native.Nat.{ℕ, _-_, _^_, _≤_, _<_}
+--   bitsFrom z at        ==  the 32 bits of z from a position on, as a limb
+--   limbAt z j           ==  limb j of z
+use Prim.Native.Nat.{ℕ, _*_, _-_, _^_, _≤_, _<_}
 use mathlib.Core.Bool.{Bool, cond, not, _&&_, _||_, xor}
 use lib.Dec.{ltb}
 use lib.IntN.{ℤ, pos}
 use Rattle.bits.specs.Logical.{bitwise, bitwiseIf}
 use Rattle.bits.specs.Shift.{shiftLeft, shiftRight}
+use Rattle.bits.specs.Division.{modℕ}
 use Rattle.bits.specs.Field.{bitField, copyBitField, rotateBitField, reverseBitField}
 use Rattle.limbwords.specs.declared.result.Logic.{Logic}
 use Rattle.limbwords.specs.declared.result.Logic.the-variants.{And, Ior, Xor, Not}
@@ -44,3 +48,9 @@ Proper (Reverse start end) = (start ≤ end) × (end < 2 ^ 32)
 
 unfoldable pub continued : ℕ → ℕ
 continued n = cond (not (ltb n 0x80000000)) 0xFFFFFFFF 0
+
+unfoldable pub bitsFrom : ℤ → ℕ → ℕ
+bitsFrom z at = modℕ (shiftRight z at) (2 ^ 32)
+
+abbrev pub limbAt : ℤ → ℕ → ℕ
+limbAt z j = bitsFrom z (32 * j)

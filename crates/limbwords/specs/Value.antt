@@ -1,12 +1,10 @@
 -- Integers as lists of 32-bit limbs, least significant first, in two's complement.
 --   onTop n t            ==  the 32 bits of the limb n, and above them the bits of t
 --   value xs             ==  the integer: the top bit of the last limb continues for ever
---   bitsFrom z at        ==  the 32 bits of z from a position on, as a limb
---   limbAt z j           ==  limb j of z
 --   limbsOf k z          ==  the k lowest limbs of z
 --   limbCount z          ==  how many limbs z needs: room for its length and one bit for its sign
 --   shortest z           ==  the shortest limbs of z
-use Prim.Native.Nat.{ℕ, zero, suc, _+_, _*_, _/_, _^_}
+use Prim.Native.Nat.{ℕ, zero, suc, _+_, _/_, _^_}
 use mathlib.Core.List.{List, [], _∷_}
 use lib.IntN.{ℤ, pos}
 use Rattle.bits.specs.Testbit.{testbit, bitLength, fill, ofBits}
@@ -20,12 +18,6 @@ unfoldable pub value : List ℕ → ℤ
 value [] = pos 0
 value (n ∷ []) = onTop n (fill (testbit (pos n) 31))
 value (n ∷ m ∷ ms) = onTop n (value (m ∷ ms))
-
-unfoldable pub bitsFrom : ℤ → ℕ → ℕ
-bitsFrom z at = modℕ (shiftRight z at) (2 ^ 32)
-
-abbrev pub limbAt : ℤ → ℕ → ℕ
-limbAt z j = bitsFrom z (32 * j)
 
 unfoldable pub limbsOf : ℕ → ℤ → List ℕ
 limbsOf zero z = []

@@ -3,7 +3,8 @@ ghost use mathlib.Core.Path.{_≡_};
 ghost use Prim.Native.Nat.{_+_, _*_, _/_, _%_, _<_, _^_};
 ghost use lib.ListN.{length};
 ghost use Rattle.bits.specs.Shift.{shiftLeft};
-ghost use Rattle.limbwords.specs.Value.{value, bitsFrom, limbAt};
+ghost use Rattle.limbwords.specs.Value.{value};
+ghost use Rattle.limbwords.specs.Results.{bitsFrom, limbAt};
 
 // 32 bits of two limbs from bit k of the lower one on.
 pub fn join(low: u32, high: u32, k: u64) -> u32

@@ -3,7 +3,8 @@ ghost use mathlib.Core.Path.{_≡_};
 ghost use Prim.Native.Nat.{_*_, _<_, _^_};
 ghost use lib.ListN.{length};
 ghost use Rattle.bits.specs.Shift.{shiftLeft, shiftRight};
-ghost use Rattle.limbwords.specs.Value.{value, limbAt};
+ghost use Rattle.limbwords.specs.Value.{value};
+ghost use Rattle.limbwords.specs.Results.{limbAt};
 use super::limb::window;
 use super::limb::window_below;
 

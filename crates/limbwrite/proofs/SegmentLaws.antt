@@ -11,7 +11,7 @@ use Rattle.bits.specs.Field.{bitField, setField, copyBitField, permuteField, ro
 use Rattle.bits.proofs.ShiftLaws.{testbit-shiftLeft-ge}
 use Rattle.bits.proofs.FieldLaws.{inField-lt, inField-ge, testbit-bitField, testbit-setField-in, testbit-setField-out}
 use Rattle.words.proofs.RotateWords.{rotate-low, rotate-high}
-use Rattle.limbwords.specs.Value.{bitsFrom, limbAt}
+use Rattle.limbwords.specs.Results.{bitsFrom, limbAt}
 use Rattle.limbwrite.specs.Inner.{Moved, Past}
 use Rattle.limbwords.proofs.LimbLaws.{bitsFrom-lt, testbit-bitsFrom, word-ext}
 use Rattle.limbwords.proofs.WindowLaws.{bitsFrom-shiftLeft-zero}

@@ -2,8 +2,9 @@
 ghost use Prim.Native.Nat.{_<_, _≤_};
 ghost use lib.ListN.{length};
 ghost use Rattle.bits.specs.Logical.{bitwise, bitwiseIf};
-ghost use Rattle.limbwords.specs.Value.{value, limbAt};
-ghost use Rattle.outcomes.specs.Buffer.{Puts};
+ghost use Rattle.limbwords.specs.Value.{value};
+ghost use Rattle.limbwords.specs.Results.{limbAt};
+ghost use Rattle.outcomes.specs.Puts.{Puts};
 ghost use Rattle.limbwords.specs.Results.{logicOf};
 use super::index::min;
 use limbwords::logical::choose;

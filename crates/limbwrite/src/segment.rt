@@ -1,9 +1,10 @@
 // Limbs put into a part of the output buffer, from one index up to, but not at, another.
 ghost use Prim.Native.Nat.{_+_, _*_, _-_, _<_, _≤_, _^_};
 ghost use lib.ListN.{length};
-ghost use Rattle.limbwords.specs.Value.{value, bitsFrom, limbAt};
+ghost use Rattle.limbwords.specs.Value.{value};
+ghost use Rattle.limbwords.specs.Results.{bitsFrom, limbAt};
 ghost use Rattle.limbwords.specs.Results.{meaning, Proper};
-ghost use Rattle.outcomes.specs.Buffer.{Puts};
+ghost use Rattle.outcomes.specs.Puts.{Puts};
 use super::index::min;
 use super::index::saturating_sub;
 use limbwords::limb::join;

@@ -10,7 +10,8 @@ use lib.Seq.{drop-drop, take-all, length-take-le, take-append-seam, drop-append-
 use borrow.Author.Tests.{le-leb, lt-leb, leb-true, leb-false}
 use borrow.Rule.Slice.PartMut.{putMid}
 use Rattle.outcomes.specs.Outcome.{Outcome, refused, done, refuse, guard, guardAt, refusalOf}
-use Rattle.outcomes.specs.Buffer.{capacity, laid, fitted, afterwards, countOf, Puts}
+use Rattle.outcomes.specs.Buffer.{capacity, laid, fitted, afterwards, countOf}
+use Rattle.outcomes.specs.Puts.{Puts}
 use Rattle.outcomes.proofs.OutcomeLaws.{passed, failed}
 use Rattle.outcomes.proofs.PutsLaws.{puts-list}
 

@@ -9,7 +9,7 @@ use lib.Dec.{eqb, ltb}
 use lib.ListN.{length, drop, set, getD, length-set, length-drop, length-append, List·getD-append}
 use lib.Seq.{ext-getD, getD-set-same, getD-set-other, getD-append-add, getD-drop}
 use borrow.Author.Tests.{ltb-true, ltb-false, eqb-true, eqb-false}
-use Rattle.outcomes.specs.Buffer.{Puts}
+use Rattle.outcomes.specs.Puts.{Puts}
 
 module _ {A : Type 0} {d : A} where
   pub puts-none : (f : ℕ → A) (p : List A) (from : ℕ) → Puts d f p p from from

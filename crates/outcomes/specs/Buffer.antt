@@ -4,13 +4,10 @@
 --   fitted o out first     ==  o, or refusal 8 where its elements are more than the capacity
 --   afterwards o out first ==  the buffer with the elements of o from the first on; as it was where o is a refusal
 --   countOf o              ==  how many elements a call with the outcome o has written
---   Puts d f a b from to   ==  b is a, but for the elements from one index up to, but not at, another: element j of them is f j.
---                              d stands for an element past the end, of either
-use Prim.Native.Nat.{ℕ, _+_, _-_, _≤_, _<_}
-use mathlib.Core.Path.{_≡_}
+use Prim.Native.Nat.{ℕ, _+_, _-_}
 use mathlib.Core.List.{List, _++_}
 use lib.Dec.{leb}
-use lib.ListN.{length, take, drop, getD}
+use lib.ListN.{length, take, drop}
 use Rattle.outcomes.specs.Outcome.{Outcome, refused, done, guard}
 
 module _ {A : Type 0} where
@@ -31,9 +28,3 @@ module _ {A : Type 0} where
   unfoldable pub countOf : Outcome (List A) → ℕ
   countOf (refused k detail) = 0
   countOf (done xs) = length xs
-
-pub record Puts {A : Type 0} (d : A) (f : ℕ → A) (a b : List A) (from to : ℕ) : Type 0 where
-  pub size : length b ≡ length a
-  pub inside : (j : ℕ) → from ≤ j → j < to → getD b j d ≡ f j
-  pub below : (j : ℕ) → j < from → getD b j d ≡ getD a j d
-  pub above : (j : ℕ) → to ≤ j → getD b j d ≡ getD a j d

@@ -14,7 +14,8 @@ use borrow.Author.Tests.{leb-true, leb-false}
 use Rattle.bits.specs.Shift.{floorDiv, shiftRight}
 use Rattle.bits.specs.Division.{modℕ}
 use Rattle.bits.proofs.ShiftLaws.{shiftRight-zero, shiftRight-compose}
-use Rattle.limbwords.specs.Value.{bitsFrom, limbAt, limbsOf}
+use Rattle.limbwords.specs.Value.{limbsOf}
+use Rattle.limbwords.specs.Results.{bitsFrom, limbAt}
 use Rattle.limbwords.proofs.ValueLaws.{length-limbsOf}
 use Rattle.text.specs.Numerals.{areDigits, numeral}
 use Rattle.text.proofs.NumeralLaws.{pow-hex, areDigits-first, areDigits-rest, numeral-lt, numeral-quotient, numeral-remainder}

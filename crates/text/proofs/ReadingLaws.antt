@@ -13,7 +13,8 @@ use Rattle.words.proofs.WordLaws.{fits-negative, fits-nonnegative}
 use Rattle.text.specs.declared.Reading.{Reading}
 use Rattle.text.specs.declared.Natural.{Natural}
 use Rattle.text.specs.Numerals.{isInteger, integer}
-use Rattle.text.specs.Readings.{asWord, reading}
+use Rattle.text.specs.Readings.{reading}
+use Rattle.text.specs.Inner.{asWord}
 
 -- ---- a number as a word without a sign
 

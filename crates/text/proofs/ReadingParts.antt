@@ -12,7 +12,7 @@ use Rattle.text.specs.declared.form.Parts.{Parts}
 use Rattle.words.specs.Sign.{withSign}
 use Rattle.bits.proofs.Booleans.{both-right, and-second}
 use Rattle.text.specs.Numerals.{byteAt, isMinus, afterSign, isPrefix, isHex, base, digitsFrom, isInteger, integer, areDigits, numeral}
-use Rattle.text.specs.Readings.{parts}
+use Rattle.text.specs.Inner.{parts}
 
 -- ---- what the code reads
 

@@ -18,7 +18,8 @@ use Rattle.outcomes.proofs.OutcomeLaws.{passed, failed}
 use Rattle.limbwords.specs.Value.{value, limbsOf}
 use Rattle.limbwords.proofs.LimbLaws.{sign-last}
 use Rattle.text.specs.Numerals.{digits, hexLength, spelled}
-use Rattle.text.specs.Spellings.{natural, hasRoom, spelling, Spells}
+use Rattle.text.specs.Spellings.{hasRoom, spelling, Spells}
+use Rattle.text.specs.Inner.{natural}
 use Rattle.text.proofs.SpellNatural.{natural-nonnegative, natural-negative}
 use Rattle.text.proofs.SpellDigits.{length-digits}
 

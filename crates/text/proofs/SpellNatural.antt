@@ -18,7 +18,7 @@ use Rattle.bits.proofs.LengthLaws.{mag-lt}
 use Rattle.words.proofs.SignedLaws.{withSign-not}
 use Rattle.limbwords.specs.Value.{value, limbsOf}
 use Rattle.limbwords.proofs.ValueLaws.{value-length, limbsOf-value}
-use Rattle.text.specs.Spellings.{natural}
+use Rattle.text.specs.Inner.{natural}
 use Rattle.text.proofs.NumeralLaws.{pow-hex}
 use Rattle.text.proofs.ReadingLimbs.{signed-absolute}
 

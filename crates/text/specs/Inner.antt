@@ -1,14 +1,31 @@
 -- What the functions inside `text` promise each other. No public call's contract cites these.
 --   Lays z fits r out    ==  r counts the limbs of the shortest form of z, and the buffer begins with them, where they fit
+--   parts cs             ==  the sign, whether the digits are hexadecimal, and where they begin
+--   asWord n             ==  a number, where it is below 2^64
+--   natural xs           ==  the number that limbs are without a sign
+use Prim.Native.Nat.{ℕ, _+_, _*_, _^_}
 use mathlib.Core.Path.{_≡_}
 use mathlib.Core.Bool.{Bool, true, cond}
-use mathlib.Core.List.{List}
-use Prim.Native.Nat.{ℕ}
+use mathlib.Core.List.{List, [], _∷_}
+use lib.Dec.{ltb}
 use lib.IntN.{ℤ}
 use lib.ListN.{take}
 use Rattle.limbwords.specs.Value.{limbCount, shortest}
 use Rattle.text.specs.declared.LimbReading.{LimbReading}
+use Rattle.text.specs.declared.Natural.{Natural}
+use Rattle.text.specs.declared.form.Parts.{Parts}
+use Rattle.text.specs.Numerals.{isMinus, isHex, digitsFrom}
 
 pub record Lays (z : ℤ) (fits : Bool) (r : LimbReading) (out : List ℕ) : Type 0 where
   pub answer : r ≡ cond fits (LimbReading.Limbs (limbCount z)) LimbReading.TooLarge
   pub limbs : fits ≡ true → take (limbCount z) out ≡ shortest z
+
+unfoldable pub parts : List ℕ → Parts
+parts cs = record { negative = isMinus cs; hexadecimal = isHex cs; start = digitsFrom cs }
+
+unfoldable pub asWord : ℕ → Natural
+asWord n = cond (ltb n (2 ^ 64)) (Natural.Value n) Natural.Beyond
+
+unfoldable pub natural : List ℕ → ℕ
+natural [] = 0
+natural (n ∷ ns) = n + 2 ^ 32 * natural ns

@@ -1,6 +1,4 @@
 -- What reading a text answers.
---   parts cs           ==  the sign, whether the digits are hexadecimal, and where they begin
---   asWord n           ==  a number, where it is below 2^64
 --   reading cs         ==  of a text as one signed 64-bit word
 --   enough cs          ==  limbs that are enough while it is read: one for each eight hexadecimal digits, or two, and one for the sign
 --   limbReading cs k   ==  of a text as limbs in a buffer of k limbs: how many the integer has in its shortest form
@@ -17,15 +15,7 @@ use Rattle.bits.specs.Testbit.{fits}
 use Rattle.limbwords.specs.Value.{limbCount, shortest}
 use Rattle.text.specs.declared.Reading.{Reading}
 use Rattle.text.specs.declared.LimbReading.{LimbReading}
-use Rattle.text.specs.declared.Natural.{Natural}
-use Rattle.text.specs.declared.form.Parts.{Parts}
-use Rattle.text.specs.Numerals.{isMinus, isHex, digitsFrom, isInteger, integer}
-
-unfoldable pub parts : List ℕ → Parts
-parts cs = record { negative = isMinus cs; hexadecimal = isHex cs; start = digitsFrom cs }
-
-unfoldable pub asWord : ℕ → Natural
-asWord n = cond (ltb n (2 ^ 64)) (Natural.Value n) Natural.Beyond
+use Rattle.text.specs.Numerals.{isHex, digitsFrom, isInteger, integer}
 
 unfoldable pub reading : List ℕ → Reading
 reading cs = cond (isInteger cs) (cond (fits 64 (integer cs)) (Reading.Number (integer cs)) Reading.TooLarge) Reading.Malformed

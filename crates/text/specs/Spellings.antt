@@ -1,22 +1,17 @@
 -- What spelling an integer answers.
---   natural xs           ==  the number that limbs are without a sign
 --   hasRoom xs out       ==  whether there is a limb, and eight bytes for each limb and three more
 --   spelling xs out      ==  the text of the integer; refusal 8 where there is no room
 --   Spells xs out r out′ ==  r counts the bytes of that text, and they are now at the start of the buffer
-use Prim.Native.Nat.{ℕ, _+_, _*_, _^_}
+use Prim.Native.Nat.{ℕ, _+_, _*_}
 use mathlib.Core.Path.{_≡_}
 use mathlib.Core.Bool.{Bool, _&&_}
-use mathlib.Core.List.{List, [], _∷_}
+use mathlib.Core.List.{List}
 use lib.Dec.{leb, ltb}
 use lib.ListN.{length}
 use Rattle.outcomes.specs.Outcome.{Outcome, done, guard}
 use Rattle.outcomes.specs.Buffer.{afterwards, countOf}
 use Rattle.limbwords.specs.Value.{value}
 use Rattle.text.specs.Numerals.{spelled}
-
-unfoldable pub natural : List ℕ → ℕ
-natural [] = 0
-natural (n ∷ ns) = n + 2 ^ 32 * natural ns
 
 unfoldable pub hasRoom : List ℕ → List ℕ → Bool
 hasRoom xs out = ltb 0 (length xs) && leb (8 * length xs + 3) (length out)

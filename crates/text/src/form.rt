@@ -4,7 +4,7 @@ ghost use mathlib.Core.Bool.{cond};
 ghost use Prim.Native.Nat.{_<_, _≤_};
 ghost use lib.ListN.{length};
 ghost use Rattle.text.specs.Numerals.{byteAt, isPrefix, isInteger};
-ghost use Rattle.text.specs.Readings.{parts};
+ghost use Rattle.text.specs.Inner.{parts};
 use super::digit::are_digits;
 
 pub struct Parts {

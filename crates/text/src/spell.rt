@@ -4,7 +4,8 @@ ghost use mathlib.Core.List.{_∷_, _++_};
 ghost use Prim.Native.Nat.{_<_, _≤_, _+_, _*_, _/_, _%_, _^_};
 ghost use lib.ListN.{length, drop};
 ghost use Rattle.text.specs.Numerals.{digits, hexLength};
-ghost use Rattle.text.specs.Spellings.{natural, Spells};
+ghost use Rattle.text.specs.Spellings.{Spells};
+ghost use Rattle.text.specs.Inner.{natural};
 use super::digit::glyph;
 use super::negate::negate;
 

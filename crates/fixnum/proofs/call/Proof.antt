@@ -4,7 +4,8 @@ use mathlib.Core.Bool.{true}
 use borrow.Author.Tests.{not-true, not-false}
 use Rattle.fxtable.specs.Domains.{isWidth}
 use Rattle.fxtable.specs.Table.{isCode}
-use Rattle.fxtable.specs.Calls.{isCount, fixnumAnswer, Accepted}
+use Rattle.fxtable.specs.Calls.{isCount, fixnumAnswer}
+use Rattle.fxtable.specs.Inner.{Accepted}
 use Rattle.fxtable.proofs.TableLaws.{at-most-four, code-bounds}
 use Rattle.outcomes.proofs.OutcomeLaws.{passed, failed}
 use Rattle.fxtable.specs.Answers.{answer}

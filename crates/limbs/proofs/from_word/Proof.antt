@@ -5,7 +5,8 @@ use mathlib.Core.List.{[], _∷_}
 use lib.Dec.{lit<}
 use Rattle.words.proofs.WordLaws.{back}
 use Rattle.outcomes.specs.Outcome.{done}
-use Rattle.limbwords.specs.Value.{value, bitsFrom}
+use Rattle.limbwords.specs.Value.{value}
+use Rattle.limbwords.specs.Results.{bitsFrom}
 use Rattle.limbwords.proofs.ValueLaws.{limbCount-le, value-length}
 use Rattle.limbs.proofs.ShiftLaws.{word-limbs}
 use Rattle.limbs.proofs.WritesLaws.{writes-as}

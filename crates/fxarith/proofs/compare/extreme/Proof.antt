@@ -11,8 +11,8 @@ use Rattle.fxtable.specs.declared.fold.Fold.{Fold}
 use Rattle.fxtable.specs.declared.fold.Fold.the-variants.{Largest, Smallest}
 use Rattle.fxtable.specs.Domains.{arg}
 use Rattle.fxtable.specs.Operations.{every, foldFrom, largest, smallest}
-use Rattle.fxtable.specs.Folds.{step}
-use Rattle.fxtable.specs.Table.{row, rows, rowOf, never}
+use Rattle.fxtable.specs.Inner.{step}
+use Rattle.fxtable.specs.Table.{row, rows, rowOf}
 use Rattle.fxtable.specs.Calls.{counted}
 use Rattle.fxtable.proofs.CallLaws.{between, arg-counted}
 use Rattle.fxtable.proofs.MeaningLaws.{arity-row}
@@ -22,7 +22,7 @@ use Rattle.fxarith.proofs.compare.extreme.Statement.{statement}
 use Rattle.fxarith.proofs.compare.extreme.Tie as tie
 
 -- the fold starts from the first argument, which is the first slot
-from-first : (fold : Fold) (c : tie.After-x) → rowOf (c .before .args .code) ≡ row 1 4 [] never (every (λ ys. foldFrom (step fold) (arg ys 0) ys))
+from-first : (fold : Fold) (c : tie.After-x) → rowOf (c .before .args .code) ≡ row 1 4 [] 0 (every (λ ys. foldFrom (step fold) (arg ys 0) ys))
     → foldFrom (step fold) (arg (counted (c .before .args .t3) (c .before .args .count)) 0) (counted (c .before .args .t3) (c .before .args .count))
     ≡ foldFrom (step fold) (toZ w64 (ofZ w64 (arg (c .before .args .t3) 0))) (counted (c .before .args .t3) (c .before .args .count))
 unfolding arg

@@ -16,7 +16,7 @@ use Rattle.outcomes.specs.Outcome.{done}
 use Rattle.fxtable.specs.Answers.{answer}
 use Rattle.fxtable.specs.Domains.{arg}
 use Rattle.fxtable.specs.Operations.{single, truth, isZero, isPositive, isBelowZero, isOdd, isEven}
-use Rattle.fxtable.specs.Table.{row, rows, rowOf, never}
+use Rattle.fxtable.specs.Table.{row, rows, rowOf}
 use Rattle.fxtable.specs.Calls.{counted, outcome}
 use Rattle.fxtable.proofs.CallLaws.{done-cong, never-checked}
 use Rattle.fxtable.proofs.MeaningLaws.{one-outcome}
@@ -25,7 +25,7 @@ use Rattle.fxarith.proofs.compare.predicate.Tie as tie
 
 -- a test of the argument and of its absolute value, as the answer of its code
 tested : (p : ℤ → ℕ → Bool) (c : tie.After-absolute)
-    → rowOf (c .before .before .args .code) ≡ row 1 1 [] never (single (λ v ys. truth (p (arg ys 0) (natAbs (arg ys 0)))))
+    → rowOf (c .before .before .args .code) ≡ row 1 1 [] 0 (single (λ v ys. truth (p (arg ys 0) (natAbs (arg ys 0)))))
     → answer (done (truth (p (toZ w64 (ofZ w64 (arg (c .before .before .args .t3) 0))) (c .absolute .result)), pos 0))
     ≡ answer (outcome (c .before .before .args .width) (c .before .before .args .code) (counted (c .before .before .args .t3) (c .before .before .args .count)))
 unfolding arg

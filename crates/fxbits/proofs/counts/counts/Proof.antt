@@ -16,8 +16,9 @@ use Rattle.outcomes.specs.Outcome.{done}
 use Rattle.fxtable.specs.Answers.{answer}
 use Rattle.fxtable.specs.Domains.{arg}
 use Rattle.fxtable.specs.Operations.{one}
-use Rattle.fxtable.specs.Table.{rows, row, rowOf, never}
-use Rattle.fxtable.specs.Calls.{Accepted, counted, outcome}
+use Rattle.fxtable.specs.Table.{rows, row, rowOf}
+use Rattle.fxtable.specs.Calls.{counted, outcome}
+use Rattle.fxtable.specs.Inner.{Accepted}
 use Rattle.fxtable.proofs.CallLaws.{done-never}
 use Rattle.fxtable.proofs.MeaningLaws.{one-outcome}
 use Rattle.fxbits.proofs.counts.counts.Statement.{statement}
@@ -25,7 +26,7 @@ use Rattle.fxbits.proofs.counts.counts.Tie as tie
 
 -- a count of the first argument's bits, as the answer of its code
 count-answer : (f : ℤ → ℤ) {w code n : ℕ} {xs : List ℤ} {r : Answer} {y : ℤ} → r ≡ answer (done (toZ w64 (ofZ w64 y), pos 0))
-    → y ≡ f (toZ w64 (ofZ w64 (arg xs 0))) → mag y < 2 ^ 63 → SFits w64 (arg xs 0) → rowOf code ≡ row 1 1 [] never (one f) → Accepted w code xs n
+    → y ≡ f (toZ w64 (ofZ w64 (arg xs 0))) → mag y < 2 ^ 63 → SFits w64 (arg xs 0) → rowOf code ≡ row 1 1 [] 0 (one f) → Accepted w code xs n
     → r ≡ answer (outcome w code (counted xs n))
 count-answer f d e h k o a = done-never _ d h (e ∙ ap f (back k)) ∙ one-outcome (λ v x. f x) o a
 

@@ -7,7 +7,7 @@ use lib.IntN.{pos, negsuc}
 use Rattle.bits.specs.Testbit.{fill}
 use Rattle.bits.specs.Logical.{bitwiseAnd, bitwiseIor, bitwiseXor, bitwiseAll, bitwiseAnds, bitwiseIors, bitwiseXors}
 use Rattle.fxtable.specs.declared.fold.Fold.the-variants.{And, Ior, Xor}
-use Rattle.fxtable.specs.Folds.{step}
+use Rattle.fxtable.specs.Inner.{step}
 use Rattle.fxtable.specs.Table.{rows, rowOf}
 use Rattle.fxtable.proofs.TableLaws.{at-most-four}
 use Rattle.fxtable.proofs.LoopLaws.{from-fold, fold-answer}

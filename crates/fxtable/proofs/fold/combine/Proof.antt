@@ -8,7 +8,7 @@ use mir.Val.{toZ, ofZ}
 use Rattle.words.proofs.WordLaws.{back, back-word}
 use Rattle.fxtable.specs.declared.fold.Fold.{Fold}
 use Rattle.fxtable.specs.Operations.{larger, smaller}
-use Rattle.fxtable.specs.Folds.{step}
+use Rattle.fxtable.specs.Inner.{step}
 use borrow.Author.Needs.{needs}
 use Rattle.fxtable.proofs.fold.combine.Statement.{statement}
 use Rattle.fxtable.proofs.fold.combine.Tie as tie

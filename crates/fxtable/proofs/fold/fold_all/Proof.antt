@@ -11,7 +11,7 @@ use borrow.Author.Needs.{needs}
 use Rattle.words.proofs.WordLaws.{back, back-word}
 use Rattle.fxtable.specs.Domains.{arg}
 use Rattle.fxtable.specs.Operations.{foldFrom}
-use Rattle.fxtable.specs.Folds.{step}
+use Rattle.fxtable.specs.Inner.{step}
 use Rattle.fxtable.specs.Calls.{counted}
 use Rattle.fxtable.proofs.LoopLaws.{fold-step, fold-two, rest-none}
 use Rattle.fxtable.proofs.fold.fold_all.Statement.{statement}

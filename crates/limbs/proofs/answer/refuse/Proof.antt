@@ -1,6 +1,6 @@
 -- `limbs::answer::refuse` meets its contract. Assumes nothing.
 use mathlib.Core.Path.{refl}
-use Rattle.limbs.specs.Buffer.{refusal}
+use Rattle.limbs.specs.Inner.{refusal}
 use Rattle.limbs.proofs.answer.refuse.Statement.{statement}
 use Rattle.limbs.proofs.answer.refuse.Tie as tie
 

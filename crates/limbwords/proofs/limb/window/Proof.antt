@@ -4,7 +4,8 @@ use native.Mathlib.Nat.{mod-lt}
 use native.Mathlib.Omega.{arith}
 use mathlib.Core.Path.{_≡_, ap, _∙_}
 use lib.Dec.{lit<}
-use Rattle.limbwords.specs.Value.{value, bitsFrom}
+use Rattle.limbwords.specs.Value.{value}
+use Rattle.limbwords.specs.Results.{bitsFrom}
 use Rattle.limbwords.proofs.LimbLaws.{bitsFrom-join}
 use borrow.Author.Needs.{needs}
 use Rattle.limbwords.proofs.limb.window.Statement.{statement}

@@ -5,7 +5,8 @@ use mathlib.Core.Path.{_≡_, ap}
 use mathlib.Core.Bool.{not}
 use lib.ListN.{length, getD}
 use borrow.Author.Needs.{needs}
-use Rattle.limbwords.specs.Value.{value, limbAt}
+use Rattle.limbwords.specs.Value.{value}
+use Rattle.limbwords.specs.Results.{limbAt}
 use Rattle.limbwords.proofs.ValueLaws.{value-length}
 use Rattle.limbwords.proofs.LimbLaws.{limb-value}
 use Rattle.limbwords.proofs.MeasureLaws.{Enough, all-enough, one-less, counted, counted-one}

@@ -3,7 +3,7 @@ use native.Mathlib.Omega.{arith}
 use mathlib.Core.Path.{_≡_, ap, _∙_}
 use lib.IntN.{ℤ}
 use Rattle.words.proofs.WordLaws.{back}
-use Rattle.limbwords.specs.Value.{bitsFrom}
+use Rattle.limbwords.specs.Results.{bitsFrom}
 use Rattle.limbwords.proofs.LimbLaws.{bitsFrom-lt}
 use borrow.Author.Needs.{needs}
 use Rattle.limbwords.proofs.signed.word_bits.Statement.{statement}

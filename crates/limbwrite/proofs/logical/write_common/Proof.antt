@@ -3,7 +3,8 @@ use Prim.Native.Nat.{_-_}
 use native.Mathlib.Omega.{arith}
 use borrow.Author.Needs.{needs}
 use Rattle.bits.specs.Logical.{bitwise}
-use Rattle.limbwords.specs.Value.{value, limbAt}
+use Rattle.limbwords.specs.Value.{value}
+use Rattle.limbwords.specs.Results.{limbAt}
 use Rattle.limbwords.specs.Results.{logicOf}
 use Rattle.limbwords.proofs.LogicalLaws.{limb-bitwise}
 use Rattle.outcomes.proofs.PutsLaws.{Turn, turn-none, turn-more, turn-all}

@@ -4,7 +4,8 @@ use native.Mathlib.Omega.{arith}
 use mathlib.Core.Path.{_∙_}
 use borrow.Author.Needs.{needs}
 use Rattle.bits.specs.Logical.{bitwiseIf}
-use Rattle.limbwords.specs.Value.{value, limbAt}
+use Rattle.limbwords.specs.Value.{value}
+use Rattle.limbwords.specs.Results.{limbAt}
 use Rattle.limbwords.proofs.LimbLaws.{limb-value}
 use Rattle.limbwords.proofs.LogicalLaws.{bitsFrom-if}
 use Rattle.outcomes.proofs.PutsLaws.{Turn, turn-none, turn-more, turn-all}

@@ -2,7 +2,8 @@
 use Prim.Native.Nat.{_+_, _*_, _-_}
 use native.Mathlib.Omega.{arith}
 use mathlib.Core.Path.{_≡_, ap}
-use Rattle.limbwords.specs.Value.{value, bitsFrom}
+use Rattle.limbwords.specs.Value.{value}
+use Rattle.limbwords.specs.Results.{bitsFrom}
 use Rattle.outcomes.proofs.PutsLaws.{puts-as}
 use borrow.Author.Needs.{needs}
 use Rattle.limbwrite.proofs.segment.put_inner.Statement.{statement}

@@ -1,7 +1,8 @@
 -- `limbwrite::segment::put_joined` meets its contract, turn by turn. Assumes nothing.
 use native.Mathlib.Omega.{arith}
 use Prim.Native.Nat.{_+_, _*_, _-_}
-use Rattle.limbwords.specs.Value.{value, bitsFrom}
+use Rattle.limbwords.specs.Value.{value}
+use Rattle.limbwords.specs.Results.{bitsFrom}
 use mathlib.Core.Path.{_≡_, ap, _∙_}
 use Rattle.limbwords.proofs.LimbLaws.{window-value}
 use Rattle.outcomes.proofs.PutsLaws.{Turn, turn-none, turn-more, turn-all}

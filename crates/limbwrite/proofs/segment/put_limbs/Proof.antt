@@ -1,7 +1,8 @@
 -- `limbwrite::segment::put_limbs` meets its contract, turn by turn. Assumes nothing.
 use native.Mathlib.Omega.{arith}
 use Prim.Native.Nat.{_-_}
-use Rattle.limbwords.specs.Value.{value, limbAt}
+use Rattle.limbwords.specs.Value.{value}
+use Rattle.limbwords.specs.Results.{limbAt}
 use Rattle.limbwords.specs.Results.{meaning}
 use Rattle.outcomes.proofs.PutsLaws.{Turn, turn-none, turn-more, turn-all}
 use Rattle.limbwrite.proofs.segment.put_limbs.Statement.{statement}

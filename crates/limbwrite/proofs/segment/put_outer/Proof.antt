@@ -1,7 +1,8 @@
 -- `limbwrite::segment::put_outer` meets its contract, turn by turn. Assumes nothing.
 use native.Mathlib.Omega.{arith}
 use Prim.Native.Nat.{_+_, _*_, _-_}
-use Rattle.limbwords.specs.Value.{value, bitsFrom}
+use Rattle.limbwords.specs.Value.{value}
+use Rattle.limbwords.specs.Results.{bitsFrom}
 use Rattle.outcomes.proofs.PutsLaws.{Turn, turn-none, turn-more, turn-all}
 use borrow.Author.Needs.{needs}
 use Rattle.limbwrite.proofs.segment.put_outer.Statement.{statement}

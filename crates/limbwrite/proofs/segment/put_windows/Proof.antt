@@ -3,7 +3,8 @@ use Prim.Native.Nat.{ℕ, _+_, _*_, _-_, _/_, _%_, _≤_}
 use native.Mathlib.Omega.{arith}
 use mathlib.Core.Path.{_≡_, ap}
 use lib.IntN.{ℤ}
-use Rattle.limbwords.specs.Value.{value, bitsFrom}
+use Rattle.limbwords.specs.Value.{value}
+use Rattle.limbwords.specs.Results.{bitsFrom}
 use Rattle.outcomes.proofs.PutsLaws.{puts-join, puts-as}
 use borrow.Author.Needs.{needs}
 use Rattle.limbwrite.proofs.segment.put_windows.Statement.{statement}

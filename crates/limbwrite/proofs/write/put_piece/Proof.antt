@@ -2,7 +2,8 @@
 use native.Mathlib.Omega.{arith}
 use Prim.Native.Nat.{ℕ, _+_, _*_, _-_}
 use mathlib.Core.Path.{ap, _∙_}
-use Rattle.limbwords.specs.Value.{value, bitsFrom}
+use Rattle.limbwords.specs.Value.{value}
+use Rattle.limbwords.specs.Results.{bitsFrom}
 use Rattle.limbwrite.proofs.SegmentLaws.{moved-limb}
 use Rattle.outcomes.proofs.PutsLaws.{puts-join, puts-as}
 use borrow.Author.Needs.{needs}

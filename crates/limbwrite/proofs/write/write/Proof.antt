@@ -4,8 +4,8 @@ use mathlib.Core.Path.{_≡_, sym, subst}
 use mathlib.Core.List.{List}
 use lib.IntN.{ℤ}
 use Rattle.limbwords.specs.declared.result.Operation.{Operation}
-use Rattle.limbwords.specs.Value.{limbAt}
-use Rattle.outcomes.specs.Buffer.{Puts}
+use Rattle.limbwords.specs.Results.{limbAt}
+use Rattle.outcomes.specs.Puts.{Puts}
 use Rattle.limbwords.specs.Results.{meaning, Proper}
 use borrow.Author.Needs.{needs}
 use Rattle.limbwrite.proofs.write.write.Statement.{statement}

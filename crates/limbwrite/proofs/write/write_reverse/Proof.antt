@@ -2,7 +2,8 @@
 use native.Mathlib.Omega.{arith}
 use Prim.Native.Nat.{_-_}
 use Rattle.bits.specs.Field.{reverseBitField}
-use Rattle.limbwords.specs.Value.{value, limbAt}
+use Rattle.limbwords.specs.Value.{value}
+use Rattle.limbwords.specs.Results.{limbAt}
 use Rattle.outcomes.proofs.PutsLaws.{Turn, turn-none, turn-more, turn-all}
 use Rattle.limbwrite.proofs.write.write_reverse.Statement.{statement}
 use Rattle.limbwrite.proofs.write.write_reverse.Tie as tie

@@ -2,7 +2,8 @@
 use native.Mathlib.Omega.{arith}
 use Prim.Native.Nat.{_+_, _*_, _-_}
 use mathlib.Core.Path.{_≡_, ap, _∙_}
-use Rattle.limbwords.specs.Value.{value, bitsFrom}
+use Rattle.limbwords.specs.Value.{value}
+use Rattle.limbwords.specs.Results.{bitsFrom}
 use Rattle.limbwords.proofs.WindowLaws.{bitsFrom-shiftRight}
 use Rattle.outcomes.proofs.PutsLaws.{puts-as}
 use borrow.Author.Needs.{needs}

@@ -3,7 +3,7 @@ use Prim.Native.Nat.{_*_, _≤_}
 use native.Mathlib.Omega.{arith}
 use mathlib.Core.Path.{sym, _∙_}
 use lib.ListN.{length}
-use Rattle.text.specs.Spellings.{natural}
+use Rattle.text.specs.Inner.{natural}
 use Rattle.text.proofs.SpellNatural.{natural-lt}
 use Rattle.text.proofs.SpellDigits.{Below, below-less, below-settled, below-one}
 use Rattle.text.proofs.spell.hex_length.Statement.{statement}

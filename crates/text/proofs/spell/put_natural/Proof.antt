@@ -5,7 +5,7 @@ use mathlib.Core.Path.{ap, _∙_}
 use mathlib.Core.List.{[], _∷_, _++_}
 use lib.ListN.{drop, length-set}
 use Rattle.text.specs.Numerals.{digits}
-use Rattle.text.specs.Spellings.{natural}
+use Rattle.text.specs.Inner.{natural}
 use Rattle.text.proofs.SpellBuffer.{part-length, part-back}
 use borrow.Author.Needs.{needs}
 use Rattle.text.proofs.spell.put_natural.Statement.{statement}

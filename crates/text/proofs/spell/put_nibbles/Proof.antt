@@ -3,7 +3,7 @@ use Prim.Native.Nat.{_-_}
 use native.Mathlib.Omega.{arith}
 use mathlib.Core.Path.{ap, _∙_}
 use Rattle.text.specs.Numerals.{glyph}
-use Rattle.text.specs.Spellings.{natural}
+use Rattle.text.specs.Inner.{natural}
 use Rattle.text.proofs.SpellDigits.{Put, put-none, put-more, put-all}
 use Rattle.text.proofs.spell.put_nibbles.Statement.{statement}
 use Rattle.text.proofs.spell.put_nibbles.Tie as tie
