@@ -63,6 +63,7 @@ pub struct Number {
     pub value: i64,
 }
 
+// and, ior and xor of two operands, and not of the first.
 fn combine(by: Logic, x: &[u32], y: &[u32], out: &mut [u32], first: u64) -> Written
     ensures { λ r. ⌜ Writes (bitwiseOutcome (logicOf by) (now (x .entry)) (now (y .entry))) (now (out .entry)) first r (now (out .exit)) ⌝ }
 {

@@ -17,8 +17,12 @@ less c = ap (λ (z : ℤ). negsuc 0 -ℤ z) (back (c .fits .distance)) ∙ minus
 word : (c : tie.Start) → toZ w64 (ofZ w64 (negsuc 0 -ℤ toZ w64 (ofZ w64 (c .args .distance)))) ≡ pos (mag (c .args .distance))
 word c = ap (λ (z : ℤ). toZ w64 (ofZ w64 z)) (less c) ∙ back-word (pos (mag (c .args .distance))) (c .fits .distance .sfits)
 
+-- where the distance itself would not fit if it were negated
+sub-result : tie.Need-sub-result
+sub-result c = subst (SFits w64) (sym (less c)) (record { sfits = c .fits .distance .sfits })
+
 returns : tie.Need-returns
 returns c = omega (arith, ap natAbs (word c), ap natAbs (complement-mag (c .args .distance) (c .pre) .1))
 
 pub negated-spec : {M : Type 1} → statement M
-negated-spec = tie.close (tie.spec (λ c. subst (SFits w64) (sym (less c)) (record { sfits = c .fits .distance .sfits })) (λ c. cast-word (word c) (c .fits .distance .sfits)) (λ c. record { fits = omega (arith, ap natAbs (word c), c .fits .distance .sfits) }) returns)
+negated-spec = tie.close (tie.spec sub-result (λ c. cast-word (word c) (c .fits .distance .sfits)) (λ c. record { fits = omega (arith, ap natAbs (word c), c .fits .distance .sfits) }) returns)
