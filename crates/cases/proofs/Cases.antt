@@ -8,7 +8,7 @@ use Rattle.bits.specs.Division.{div, modℕ, «mod», div0, mod0}
 use Rattle.bits.specs.Field.{inField, setField, permuteField, rotateIndex, reverseIndex, rotateBitField, reverseBitField, copyBitField, copyBit}
 use Rattle.bits.specs.Count.{onesBelow, ones, bitCount, firstTrue, firstBitSet}
 use Rattle.bits.specs.Range.{within}
-use Rattle.fxtable.specs.Answers.{answer}
+use Rattle.fxtable.specs.Calls.{answer}
 use Rattle.fxtable.specs.Domains.{leastWidth, largestWidth, isWidth, arg, accepts, inDomainsFrom, inDomains}
 use Rattle.fxtable.specs.Operations.{resultsOf, minus, partsOf}
 use Rattle.fxtable.specs.Table.{rows, isCode, rowOf}

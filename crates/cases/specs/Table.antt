@@ -4,7 +4,6 @@
 --   Reply        ==  all that a call gives back: an answer; an answer and the buffer afterwards; a number
 --   given row    ==  what the call of the row gives back, by the definitions that the contracts cite
 --   stated row   ==  what the row says
---   table        ==  the cases
 use Prim.Native.Nat.{ℕ}
 use mathlib.Core.Bool.{_&&_}
 use mathlib.Core.List.{List, [], _∷_, _++_}

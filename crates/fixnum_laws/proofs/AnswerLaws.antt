@@ -14,7 +14,7 @@ use Rattle.bits.proofs.FitsLaws.{lt-two-pow}
 use Rattle.bits.specs.Testbit.{fits}
 use Rattle.bits.specs.Field.{rotateBitField, reverseBitField}
 use Rattle.bits.proofs.IntegerLaws.{pos-sub-ge}
-use Rattle.fxtable.specs.Answers.{answer}
+use Rattle.fxtable.specs.Calls.{answer}
 use Rattle.bits.specs.Range.{within}
 use Rattle.fxtable.specs.Domains.{isWidth, arg, accepts, inDomainsFrom, inDomains}
 use Rattle.fxtable.specs.Operations.{resultsOf, every, one}

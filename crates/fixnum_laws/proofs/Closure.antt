@@ -11,7 +11,7 @@ use Rattle.bits.specs.Testbit.{testbit, fits}
 use Rattle.bits.specs.Logical.{bitwiseAnds, bitwiseIors, bitwiseXors}
 use Rattle.bits.proofs.FitsLaws.{zero-fits}
 use Rattle.outcomes.specs.Outcome.{Outcome, done, guard, guardAt}
-use Rattle.fxtable.specs.Answers.{answer}
+use Rattle.fxtable.specs.Calls.{answer}
 use Rattle.fxtable.specs.declared.domains.Domain.the-variants.{Rotation}
 use Rattle.fxtable.specs.Domains.{isWidth, arg, inDomains}
 use Rattle.fxtable.specs.Operations.{equal, greater, greaterOrEqual, chain, isZero, isPositive, isBelowZero, isOdd, isEven, resultsOf}

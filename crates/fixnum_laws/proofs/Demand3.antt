@@ -20,7 +20,7 @@ use Rattle.bits.proofs.FitsLaws.{is-true, pow-fits, fill-fits, bitwise-fits}
 use Rattle.bits.proofs.ListTheorem.{ListLaw, list-theorem, calls-fit}
 use Rattle.fxtable.specs.declared.answer.Answer.{Answer}
 use Rattle.outcomes.specs.Outcome.{done, refuse}
-use Rattle.fxtable.specs.Answers.{answer}
+use Rattle.fxtable.specs.Calls.{answer}
 use Rattle.fxtable.specs.Domains.{isWidth}
 use Rattle.fxtable.specs.Operations.{every}
 use Rattle.fxtable.specs.Table.{row, rows, isCode, rowOf}

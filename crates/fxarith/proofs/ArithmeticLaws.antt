@@ -6,7 +6,7 @@ use mathlib.Core.Bool.{true}
 use mathlib.Core.List.{List, [], _∷_}
 use lib.IntN.{ℤ, pos, negℤ, _-ℤ_}
 use lib.ListN.{length}
-use Rattle.fxtable.specs.Answers.{answer}
+use Rattle.fxtable.specs.Calls.{answer}
 use Rattle.fxtable.specs.Domains.{arg}
 use Rattle.fxtable.specs.Operations.{resultsOf, every, minus}
 use Rattle.fxtable.specs.Table.{row, rows, rowOf}

@@ -7,7 +7,7 @@ ghost use Rattle.words.specs.Wide.{wideValue};
 ghost use Rattle.outcomes.specs.Outcome as outcomes;
 ghost use Rattle.fxtable.specs.Operations.{partsOf};
 ghost use Rattle.fxtable.specs.Domains.{isWidth};
-ghost use Rattle.fxtable.specs.Answers.{answer};
+ghost use Rattle.fxtable.specs.Calls.{answer};
 ghost use Rattle.fxtable.specs.Calls.{counted, outcome};
 ghost use Rattle.fxtable.specs.Inner.{Accepted};
 use fxtable::answer::Answer;

@@ -5,7 +5,7 @@ ghost use Prim.Native.Nat.{_≤_, _<_};
 ghost use lib.IntN.{pos};
 ghost use Rattle.bits.specs.Shift.{shiftLeft, shiftRight};
 ghost use Rattle.fxtable.specs.Domains.{isWidth};
-ghost use Rattle.fxtable.specs.Answers.{answer};
+ghost use Rattle.fxtable.specs.Calls.{answer};
 ghost use Rattle.fxtable.specs.Calls as calls;
 ghost use Rattle.fxtable.specs.Calls.{counted, outcome};
 ghost use Rattle.fxtable.specs.Inner.{Accepted};

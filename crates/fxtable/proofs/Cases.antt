@@ -16,7 +16,7 @@ use Rattle.bits.specs.Field.{inField, rotateIndex, reverseIndex, setField, perm
 use Rattle.bits.specs.Range.{within}
 use Rattle.outcomes.specs.Outcome.{Outcome, done, refuse, guard, guardAt}
 use Rattle.fxtable.specs.declared.answer.Answer.{Answer}
-use Rattle.fxtable.specs.Answers.{answer}
+use Rattle.fxtable.specs.Calls.{answer}
 use Rattle.fxtable.specs.Domains.{leastWidth, largestWidth, isWidth, arg, accepts, inDomainsFrom, inDomains}
 use Rattle.fxtable.specs.Operations.{resultsOf, partsOf, truth, equal, greater, greaterOrEqual, chainFrom, chain, isZero, isPositive}
 use Rattle.fxtable.specs.Operations.{isBelowZero, isOdd, isEven, foldFrom, larger, smaller, largest, smallest, minus}

@@ -2,17 +2,17 @@
 --   counted args count                 ==  the arguments: the slots up to the count
 --   checked overflow w results         ==  the results, or the overflow refusal where the first is no fixnum; 0: it always is one
 --   outcome w code xs                  ==  what an operation comes to, on arguments that no stage refuses
+--   answer o                           ==  refusal 0 and the two results; or the refusal number, and zero results
 --   fixnumAnswer w code args count     ==  the answer of the call
 use Prim.Native.Nat.{ℕ}
 use mathlib.Core.Bool.{Bool, true, _&&_, _||_}
 use mathlib.Core.List.{List, [], _∷_}
 use lib.Dec.{leb, eqb}
-use lib.IntN.{ℤ}
+use lib.IntN.{ℤ, pos}
 use lib.ListN.{take}
 use Rattle.bits.specs.Testbit.{fits}
-use Rattle.outcomes.specs.Outcome.{Outcome, done, guard}
+use Rattle.outcomes.specs.Outcome.{Outcome, refused, done, guard}
 use Rattle.fxtable.specs.declared.answer.Answer.{Answer}
-use Rattle.fxtable.specs.Answers.{answer}
 use Rattle.fxtable.specs.Domains.{isWidth, inDomains}
 use Rattle.fxtable.specs.Operations.{resultsOf}
 use Rattle.fxtable.specs.Table.{isCode, rowOf}
@@ -32,6 +32,10 @@ checked overflow w results = guard (eqb overflow 0 || fits w (results .0)) overf
 
 unfoldable pub outcome : ℕ → ℕ → List ℤ → Outcome (ℤ × ℤ)
 outcome w code xs = checked (rowOf code .overflow) w (resultsOf (rowOf code .results) w xs)
+
+unfoldable pub answer : Outcome (ℤ × ℤ) → Answer
+answer (refused k detail) = record { refusal = k; first = pos 0; second = pos 0 }
+answer (done results) = record { refusal = 0; first = results .0; second = results .1 }
 
 unfoldable pub fixnumAnswer : ℕ → ℕ → List ℤ → ℕ → Answer
 fixnumAnswer w code args count =

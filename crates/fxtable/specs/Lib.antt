@@ -1,4 +1,3 @@
-pub mod Answers
 pub mod Domains
 pub mod Operations
 pub mod Table

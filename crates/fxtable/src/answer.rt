@@ -3,7 +3,7 @@
 ghost use mathlib.Core.Path.{_≡_};
 ghost use lib.IntN.{pos};
 ghost use Rattle.outcomes.specs.Outcome as outcome;
-ghost use Rattle.fxtable.specs.Answers.{answer};
+ghost use Rattle.fxtable.specs.Calls.{answer};
 ghost use Rattle.fxtable.specs.Operations.{truth};
 
 #[repr(C)]

@@ -5,7 +5,7 @@ ghost use Prim.Native.Nat.{_<_};
 ghost use lib.IntN.{pos};
 ghost use Rattle.words.specs.Sign.{withSign};
 ghost use Rattle.words.specs.Wide.{wideValue};
-ghost use Rattle.fxtable.specs.Answers.{answer};
+ghost use Rattle.fxtable.specs.Calls.{answer};
 ghost use Rattle.fxtable.specs.Domains.{isWidth};
 ghost use Rattle.fxtable.specs.Calls as calls;
 use super::answer::Answer;

@@ -3,10 +3,8 @@
 --   isOperand xs             ==  whether xs has 1 to 1,024 limbs
 --   operand xs o             ==  o, or refusal 7 where xs is no operand
 --   natural n o              ==  o, or refusal 5 where n is negative: a distance, a rotation's count, a position of bit-set?
---   isField start end        ==  whether 0 <= start <= end <= 32,767
---   field start end o        ==  o, or refusal 5 where they are no field
---   isNewBit k bit           ==  whether 0 <= k <= 32,766, and the bit is 0 or 1
---   newBit k bit o           ==  o, or refusal 5 where copy-bit cannot take them
+--   isField, field start end ==  whether 0 <= start <= end <= 32,767; the stage that refuses by 5 where not
+--   isNewBit, newBit k bit   ==  whether 0 <= k <= 32,766, and the bit is 0 or 1; the stage that refuses by 5 where not
 --   sized z                  ==  z, or refusal 6 where it has more than 1,024 limbs
 use Prim.Native.Nat.{ℕ}
 use mathlib.Core.Bool.{Bool, _&&_, cond}

@@ -8,7 +8,7 @@ use Rattle.fxtable.specs.Calls.{isCount, fixnumAnswer}
 use Rattle.fxtable.specs.Inner.{Accepted}
 use Rattle.fxtable.proofs.TableLaws.{at-most-four, code-bounds}
 use Rattle.outcomes.proofs.OutcomeLaws.{passed, failed}
-use Rattle.fxtable.specs.Answers.{answer}
+use Rattle.fxtable.specs.Calls.{answer}
 use Rattle.fxtable.proofs.CallLaws.{accepted}
 use borrow.Author.Needs.{needs}
 use Rattle.fixnum.proofs.call.Statement.{statement}

@@ -12,7 +12,7 @@ use Rattle.words.proofs.WordLaws.{back}
 use Rattle.words.proofs.PartBounds.{signed, natAbs-signed}
 use Rattle.words.proofs.WideLaws.{word-room, sum-room, product-room}
 use Rattle.outcomes.specs.Outcome.{done}
-use Rattle.fxtable.specs.Answers.{answer}
+use Rattle.fxtable.specs.Calls.{answer}
 use Rattle.fxtable.specs.Domains.{arg}
 use Rattle.fxtable.specs.Operations.{partsOf}
 use Rattle.fxtable.specs.Table.{rows, rowOf}

@@ -13,7 +13,7 @@ use mir.Val.{toZ, ofZ}
 use Rattle.bits.specs.Testbit.{odd}
 use Rattle.words.proofs.WordLaws.{back-word}
 use Rattle.outcomes.specs.Outcome.{done}
-use Rattle.fxtable.specs.Answers.{answer}
+use Rattle.fxtable.specs.Calls.{answer}
 use Rattle.fxtable.specs.Domains.{arg}
 use Rattle.fxtable.specs.Operations.{single, truth, isZero, isPositive, isBelowZero, isOdd, isEven}
 use Rattle.fxtable.specs.Table.{row, rows, rowOf}

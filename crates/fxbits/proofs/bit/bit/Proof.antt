@@ -12,7 +12,7 @@ use Rattle.bits.specs.Division.{mod0}
 use Rattle.bits.specs.Field.{copyBit}
 use Rattle.words.proofs.WordLaws.{back-word}
 use Rattle.outcomes.specs.Outcome.{done}
-use Rattle.fxtable.specs.Answers.{answer}
+use Rattle.fxtable.specs.Calls.{answer}
 use Rattle.fxtable.specs.Domains.{arg, domainAt}
 use Rattle.fxtable.specs.Operations.{truth, question}
 use Rattle.fxtable.specs.Table.{rows, rowOf}

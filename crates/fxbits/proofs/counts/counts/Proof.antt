@@ -13,7 +13,7 @@ use Rattle.bits.specs.Count.{bitCount, firstBitSet}
 use Rattle.words.proofs.WordLaws.{back}
 use Rattle.fxtable.specs.declared.answer.Answer.{Answer}
 use Rattle.outcomes.specs.Outcome.{done}
-use Rattle.fxtable.specs.Answers.{answer}
+use Rattle.fxtable.specs.Calls.{answer}
 use Rattle.fxtable.specs.Domains.{arg}
 use Rattle.fxtable.specs.Operations.{one}
 use Rattle.fxtable.specs.Table.{rows, row, rowOf}

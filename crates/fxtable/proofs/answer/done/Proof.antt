@@ -3,7 +3,7 @@ use mathlib.Core.Path.{ap₂}
 use lib.IntN.{ℤ}
 use Rattle.outcomes.specs.Outcome.{done}
 use Rattle.words.proofs.WordLaws.{back}
-use Rattle.fxtable.specs.Answers.{answer}
+use Rattle.fxtable.specs.Calls.{answer}
 use Rattle.fxtable.proofs.answer.done.Statement.{statement}
 use Rattle.fxtable.proofs.answer.done.Tie as tie
 

@@ -1,6 +1,6 @@
 -- `fxtable::answer::refuse` meets its contract. Assumes nothing.
 use mathlib.Core.Path.{refl}
-use Rattle.fxtable.specs.Answers.{answer}
+use Rattle.fxtable.specs.Calls.{answer}
 use Rattle.fxtable.proofs.answer.refuse.Statement.{statement}
 use Rattle.fxtable.proofs.answer.refuse.Tie as tie
 
