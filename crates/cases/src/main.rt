@@ -32,7 +32,7 @@ fn shift_fixnum(width: u64, x: i64, distance: i64) {
 
 // The limbs of a result are printed as the integer that they are. A refused call has written none.
 fn shift_limbs(x: &[u32], distance: i64, out: &mut [u32]) {
-    print(b"limbs, room ");
+    print(b"limbs, capacity ");
     print_natural(out.len() as u64);
     print_shift(limbs::to_word(x).value, distance);
     let answer = limbs::bitwise_shift(x, distance, out, 0);

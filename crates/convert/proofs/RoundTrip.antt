@@ -19,7 +19,7 @@ use Rattle.limbs.specs.declared.Written.{Written}
 use Rattle.outcomes.specs.Outcome.{Outcome, done, refuse, guard, guardAt, mapDone, refusalOf}
 use Rattle.outcomes.specs.Buffer.{capacity, fitted, countOf}
 use Rattle.outcomes.proofs.OutcomeLaws.{passed, stage-passed}
-use Rattle.outcomes.proofs.BufferLaws.{fitted-room}
+use Rattle.outcomes.proofs.BufferLaws.{fitted-enough}
 use Rattle.limbs.specs.Buffer.{stored, written, Writes, number}
 use Rattle.limbs.specs.Operations.{isOperand, operand}
 use Rattle.limbs.proofs.StageLaws.{operand-passed, operand-legal}
@@ -121,4 +121,4 @@ two-limbs-enough w n out first a f h =
     let b = width-bounds w a in
     let l = limbCount-le n 2 (omega (arith, fits-length w n (omega arith) .0 (holds f))) in
     ap (λ (o : Outcome ℤ). written o out first) (to-limbs w n a f)
-    ∙ ap (λ (p : Outcome (List ℕ)). record { refusal = refusalOf p; length = countOf p }) (fitted-room (shortest n) out first (omega (arith, length-shortest n)))
+    ∙ ap (λ (p : Outcome (List ℕ)). record { refusal = refusalOf p; length = countOf p }) (fitted-enough (shortest n) out first (omega (arith, length-shortest n)))

@@ -1,8 +1,7 @@
 // The operation of a code, on the arguments of a call that no stage has refused.
 ghost use mathlib.Core.Path.{_≡_};
 ghost use Prim.Native.Nat.{_≤_};
-ghost use Rattle.fxtable.specs.Calls.{answer};
-ghost use Rattle.fxtable.specs.Calls.{counted, outcome};
+ghost use Rattle.fxtable.specs.Calls.{answer, counted, outcome};
 ghost use Rattle.fxtable.specs.Inner.{Accepted};
 use fxarith::arithmetic::arithmetic;
 use fxarith::carry::carry;

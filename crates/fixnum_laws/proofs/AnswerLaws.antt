@@ -14,12 +14,11 @@ use Rattle.bits.proofs.FitsLaws.{lt-two-pow}
 use Rattle.bits.specs.Testbit.{fits}
 use Rattle.bits.specs.Field.{rotateBitField, reverseBitField}
 use Rattle.bits.proofs.IntegerLaws.{pos-sub-ge}
-use Rattle.fxtable.specs.Calls.{answer}
+use Rattle.fxtable.specs.Calls.{answer, counted, isCount, allFixnums, outcome, fixnumAnswer}
 use Rattle.bits.specs.Range.{within}
 use Rattle.fxtable.specs.Domains.{isWidth, arg, accepts, inDomainsFrom, inDomains}
 use Rattle.fxtable.specs.Operations.{resultsOf, every, one}
 use Rattle.fxtable.specs.Table.{row, rows, isCode, rowOf}
-use Rattle.fxtable.specs.Calls.{counted, isCount, allFixnums, outcome, fixnumAnswer}
 use Rattle.bits.specs.FieldList.{rotate}
 use Rattle.fixnum_laws.specs.Lists.{answerOf, isDone}
 use Rattle.bits.proofs.Booleans.{and-true}

@@ -11,15 +11,13 @@ use Rattle.bits.specs.Testbit.{testbit, fits}
 use Rattle.bits.specs.Logical.{bitwiseAnds, bitwiseIors, bitwiseXors}
 use Rattle.bits.proofs.FitsLaws.{zero-fits}
 use Rattle.outcomes.specs.Outcome.{Outcome, done, guard, guardAt}
-use Rattle.fxtable.specs.Calls.{answer}
+use Rattle.fxtable.specs.Calls.{answer, counted, isCount, allFixnums, checked, outcome, fixnumAnswer}
 use Rattle.fxtable.specs.declared.domains.Domain.the-variants.{Rotation}
 use Rattle.fxtable.specs.Domains.{isWidth, arg, inDomains}
 use Rattle.fxtable.specs.Operations.{equal, greater, greaterOrEqual, chain, isZero, isPositive, isBelowZero, isOdd, isEven, resultsOf}
 use Rattle.fxtable.specs.Table.{rows, rowOf, isCode}
-use Rattle.fxtable.specs.Calls.{counted, isCount, allFixnums, checked, outcome, fixnumAnswer}
 use Rattle.fxtable.proofs.TableLaws.{code-bounds, from-to}
-use Rattle.fixnum_laws.proofs.ResultLaws.{Fit, Fixnums, question-fits, largest-fits, smallest-fits, mod-result-fits, mod0-result-fits, sum-carry-fits, difference-carry-fits, product-carry-fits, not-result-fits}
-use Rattle.fixnum_laws.proofs.ResultLaws.{all-result-fits, if-result-fits, count-fits, length-fits, first-bit-fits, copy-bit-fits, field-fits, copy-field-fits, rotate-fits, reverse-fits, right-shift-fits}
+use Rattle.fixnum_laws.proofs.ResultLaws.{Fit, Fixnums, question-fits, largest-fits, smallest-fits, mod-result-fits, mod0-result-fits, sum-carry-fits, difference-carry-fits, product-carry-fits, not-result-fits, all-result-fits, if-result-fits, count-fits, length-fits, first-bit-fits, copy-bit-fits, field-fits, copy-field-fits, rotate-fits, reverse-fits, right-shift-fits}
 
 -- both results of an outcome are fixnums; a refusal has zero results
 abbrev Fixed : ℕ → Outcome (ℤ × ℤ) → Type 0

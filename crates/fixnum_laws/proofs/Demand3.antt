@@ -20,11 +20,10 @@ use Rattle.bits.proofs.FitsLaws.{is-true, pow-fits, fill-fits, bitwise-fits}
 use Rattle.bits.proofs.ListTheorem.{ListLaw, list-theorem, calls-fit}
 use Rattle.fxtable.specs.declared.answer.Answer.{Answer}
 use Rattle.outcomes.specs.Outcome.{done, refuse}
-use Rattle.fxtable.specs.Calls.{answer}
+use Rattle.fxtable.specs.Calls.{answer, allFixnums}
 use Rattle.fxtable.specs.Domains.{isWidth}
 use Rattle.fxtable.specs.Operations.{every}
 use Rattle.fxtable.specs.Table.{row, rows, isCode, rowOf}
-use Rattle.fxtable.specs.Calls.{allFixnums}
 use Rattle.fixnum_laws.specs.Lists.{answerOf, answerTo, handOn, runAll, isDone, turned, ListStatement}
 use Rattle.bits.proofs.Booleans.{both-left, both-right, and-second}
 use Rattle.fxtable.proofs.TableLaws.{from-to}

@@ -17,7 +17,7 @@ take-agree (suc n) (x ∷ xs) [] l e = absurd (omega arith)
 take-agree (suc n) (x ∷ xs) (y ∷ ys) l e = cc (e 0 (zero-lt-suc n), take-agree n xs ys (omega arith) (λ i h. e (suc i) (omega arith)))
 
 -- two runs of slots that agree up to the count get the same answer
-pub uncounted-places : (w code n : ℕ) (xs ys : List ℤ) → length xs ≡ length ys → ((i : ℕ) → i < n → arg xs i ≡ arg ys i)
+pub uncounted-arguments : (w code n : ℕ) (xs ys : List ℤ) → length xs ≡ length ys → ((i : ℕ) → i < n → arg xs i ≡ arg ys i)
     → fixnumAnswer w code xs n ≡ fixnumAnswer w code ys n
 unfolding fixnumAnswer counted arg
-uncounted-places w code n xs ys l e = rw (take-agree n xs ys l e)
+uncounted-arguments w code n xs ys l e = rw (take-agree n xs ys l e)

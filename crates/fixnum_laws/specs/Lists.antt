@@ -18,10 +18,9 @@ use Rattle.bits.specs.Field.{inField}
 use Rattle.outcomes.specs.Outcome.{done}
 use Rattle.bits.specs.FieldList.{FieldCall, rotate, reverse, netCount, oddReversals}
 use Rattle.fxtable.specs.declared.answer.Answer.{Answer}
-use Rattle.fxtable.specs.Calls.{answer}
+use Rattle.fxtable.specs.Calls.{answer, allFixnums, fixnumAnswer}
 use Rattle.fxtable.specs.declared.domains.Domain.the-variants.{Rotation}
 use Rattle.fxtable.specs.Domains.{accepts}
-use Rattle.fxtable.specs.Calls.{allFixnums, fixnumAnswer}
 
 unfoldable pub answerOf : ℕ → ℕ → List ℤ → Answer
 answerOf w code xs = fixnumAnswer w code xs (length xs)

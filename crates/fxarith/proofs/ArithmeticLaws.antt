@@ -6,11 +6,10 @@ use mathlib.Core.Bool.{true}
 use mathlib.Core.List.{List, [], _∷_}
 use lib.IntN.{ℤ, pos, negℤ, _-ℤ_}
 use lib.ListN.{length}
-use Rattle.fxtable.specs.Calls.{answer}
+use Rattle.fxtable.specs.Calls.{answer, counted, isCount, checked, outcome}
 use Rattle.fxtable.specs.Domains.{arg}
 use Rattle.fxtable.specs.Operations.{resultsOf, every, minus}
 use Rattle.fxtable.specs.Table.{row, rows, rowOf}
-use Rattle.fxtable.specs.Calls.{counted, isCount, checked, outcome}
 use Rattle.fxtable.proofs.CallLaws.{between}
 use Rattle.fxtable.proofs.MeaningLaws.{by-row}
 use Rattle.fxtable.proofs.TableLaws.{from-to}

@@ -1,8 +1,7 @@
 // Codes 13 to 15: sum, product, difference.
 ghost use mathlib.Core.Path.{_≡_};
 ghost use Prim.Native.Nat.{_≤_};
-ghost use Rattle.fxtable.specs.Calls.{answer};
-ghost use Rattle.fxtable.specs.Calls.{counted, outcome};
+ghost use Rattle.fxtable.specs.Calls.{answer, counted, outcome};
 ghost use Rattle.fxtable.specs.Inner.{Accepted};
 use fxtable::answer::Answer;
 use fxtable::overflow::checked;

@@ -1,8 +1,7 @@
 // Codes 1 to 12: comparisons of arguments with the next, predicates of one argument, the largest and the smallest.
 ghost use mathlib.Core.Path.{_≡_};
 ghost use Prim.Native.Nat.{_≤_};
-ghost use Rattle.fxtable.specs.Calls.{answer};
-ghost use Rattle.fxtable.specs.Calls.{counted, outcome};
+ghost use Rattle.fxtable.specs.Calls.{answer, counted, outcome};
 ghost use Rattle.fxtable.specs.Inner.{Accepted};
 ghost use mathlib.Core.List.{[]};
 ghost use Rattle.fxtable.specs.Operations as operations;

@@ -2,8 +2,7 @@
 // start is argument 1 and its end argument 2. A rotate or a reverse takes the field as a number, and puts the new one back.
 ghost use Prim.Native.Nat.{_≤_, _<_};
 ghost use mathlib.Core.Path.{_≡_};
-ghost use Rattle.fxtable.specs.Calls.{answer};
-ghost use Rattle.fxtable.specs.Calls.{counted, outcome};
+ghost use Rattle.fxtable.specs.Calls.{answer, counted, outcome};
 ghost use Rattle.fxtable.specs.Inner.{Accepted};
 use fxtable::answer::Answer;
 use fxtable::answer::done;

@@ -21,10 +21,9 @@ use Rattle.outcomes.specs.Outcome.{done, refuse}
 use Rattle.outcomes.proofs.OutcomeLaws.{passed, failed}
 use Rattle.words.proofs.WordLaws.{back-word, fits-mag}
 use Rattle.fxtable.specs.declared.answer.Answer.{Answer}
-use Rattle.fxtable.specs.Calls.{answer}
+use Rattle.fxtable.specs.Calls.{answer, counted, allFixnums, checked, outcome, fixnumAnswer}
 use Rattle.fxtable.specs.Domains.{leastWidth, largestWidth, isWidth, arg}
 use Rattle.fxtable.specs.Table.{isCode}
-use Rattle.fxtable.specs.Calls.{counted, allFixnums, checked, outcome, fixnumAnswer}
 use Rattle.fxtable.specs.Inner.{Accepted}
 
 or-true : (b : Bool) → b || true ≡ true

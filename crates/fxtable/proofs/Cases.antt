@@ -16,12 +16,10 @@ use Rattle.bits.specs.Field.{inField, rotateIndex, reverseIndex, setField, perm
 use Rattle.bits.specs.Range.{within}
 use Rattle.outcomes.specs.Outcome.{Outcome, done, refuse, guard, guardAt}
 use Rattle.fxtable.specs.declared.answer.Answer.{Answer}
-use Rattle.fxtable.specs.Calls.{answer}
+use Rattle.fxtable.specs.Calls.{answer, counted, isCount, allFixnums, checked, outcome, fixnumAnswer}
 use Rattle.fxtable.specs.Domains.{leastWidth, largestWidth, isWidth, arg, accepts, inDomainsFrom, inDomains}
-use Rattle.fxtable.specs.Operations.{resultsOf, partsOf, truth, equal, greater, greaterOrEqual, chainFrom, chain, isZero, isPositive}
-use Rattle.fxtable.specs.Operations.{isBelowZero, isOdd, isEven, foldFrom, larger, smaller, largest, smallest, minus}
+use Rattle.fxtable.specs.Operations.{resultsOf, partsOf, truth, equal, greater, greaterOrEqual, chainFrom, chain, isZero, isPositive, isBelowZero, isOdd, isEven, foldFrom, larger, smaller, largest, smallest, minus}
 use Rattle.fxtable.specs.Table.{rows, noRow, isCode, rowOf}
-use Rattle.fxtable.specs.Calls.{counted, isCount, allFixnums, checked, outcome, fixnumAnswer}
 
 abbrev neg : ℕ → ℤ
 neg n = negℤ (pos n)

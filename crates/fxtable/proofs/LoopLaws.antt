@@ -17,10 +17,9 @@ use Rattle.bits.specs.Logical.{bitwise, bitwiseFrom}
 use Rattle.outcomes.specs.Outcome.{done}
 use Rattle.fxtable.specs.declared.answer.Answer.{Answer}
 use Rattle.fxtable.specs.declared.fold.Fold.{Fold}
-use Rattle.fxtable.specs.Calls.{answer}
+use Rattle.fxtable.specs.Calls.{answer, counted, allFixnums, outcome}
 use Rattle.fxtable.specs.Inner.{step}
 use Rattle.fxtable.specs.Table.{row, rowOf}
-use Rattle.fxtable.specs.Calls.{counted, allFixnums, outcome}
 use Rattle.fxtable.proofs.CallLaws.{done-word}
 use Rattle.fxtable.proofs.MeaningLaws.{every-outcome}
 use lib.Signed.{mag}

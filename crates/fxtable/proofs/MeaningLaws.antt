@@ -7,11 +7,10 @@ use lib.Dec.{leb, lit<}
 use lib.IntN.{ℤ, pos}
 use Rattle.outcomes.specs.Outcome.{done}
 use Rattle.fxtable.specs.declared.domains.Domain.{Domain}
-use Rattle.fxtable.specs.Calls.{answer}
+use Rattle.fxtable.specs.Calls.{answer, counted, isCount, checked, outcome}
 use Rattle.fxtable.specs.Domains.{arg}
 use Rattle.fxtable.specs.Operations.{single, double, resultsOf, every}
 use Rattle.fxtable.specs.Table.{Row, row, rowOf}
-use Rattle.fxtable.specs.Calls.{counted, isCount, checked, outcome}
 use Rattle.fxtable.specs.Inner.{Accepted}
 use Rattle.fxtable.proofs.CallLaws.{arg-exactly, never-checked}
 

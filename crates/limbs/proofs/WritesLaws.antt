@@ -18,7 +18,7 @@ use Rattle.bits.proofs.ShiftLaws.{shiftRight-zero, shiftRight-compose}
 use Rattle.outcomes.specs.Outcome.{Outcome, done, refuse, mapDone, refusalOf}
 use Rattle.outcomes.specs.Buffer.{fitted, afterwards, countOf}
 use Rattle.outcomes.specs.Puts.{Puts}
-use Rattle.outcomes.proofs.BufferLaws.{fitted-room, fitted-no-room, laid-part, read-back, countOf-room, afterwards-length}
+use Rattle.outcomes.proofs.BufferLaws.{fitted-enough, fitted-short, laid-part, read-back, countOf-capacity, afterwards-length}
 use Rattle.limbwords.specs.Value.{limbsOf, limbCount, shortest}
 use Rattle.limbwords.specs.Results.{bitsFrom, limbAt}
 use Rattle.limbwords.proofs.ValueLaws.{length-shortest, limbCount-positive}
@@ -68,7 +68,7 @@ module _ (z : ℤ) (out : List ℕ) (first : ℕ) {n : ℕ} (counted : n ≡ lim
   unfolding stored mapDone refusal refusalOf countOf afterwards
   no-capacity {b} e h q =
       let l = leb-false n (length out - first) (sym e ∙ not-true b h) in
-      from-stored (refuse 8) (fitted-no-room (shortest z) out first (omega (arith, length-shortest z))) q refl
+      from-stored (refuse 8) (fitted-short (shortest z) out first (omega (arith, length-shortest z))) q refl
 
   -- the borrowed part has come back with the limbs in it
   pub limbs-stored : n ≤ length out - first → (part : List ℕ) → Puts 0 (limbAt z) (take (length out - first) (drop first out)) part 0 n
@@ -76,7 +76,7 @@ module _ (z : ℤ) (out : List ℕ) (first : ℕ) {n : ℕ} (counted : n ≡ lim
   unfolding stored mapDone refusalOf countOf afterwards shortest
   limbs-stored room part w =
       let long = length-shortest z ∙ sym counted in
-      from-stored (done (shortest z)) (fitted-room (shortest z) out first (omega arith))
+      from-stored (done (shortest z)) (fitted-enough (shortest z) out first (omega arith))
       (ap (λ (k : ℕ). record { refusal = 0; length = k }) (sym long))
       (laid-part (shortest z) out part first n long (λ j l. getD-limbsOf (limbCount z) z j (omega arith)) room w)
 
@@ -95,7 +95,7 @@ pub written-within : {o : Outcome ℤ} {out out′ : List ℕ} {first : ℕ} {r 
 unfolding written stored
 written-within {o} {out} {out′} {first} w =
     let a = ap (λ (a : Written). a .length) (w .answer) in
-    let l = countOf-room (mapDone shortest o) out first in
+    let l = countOf-capacity (mapDone shortest o) out first in
     let k = ap length (w .buffer) ∙ afterwards-length (mapDone shortest o) out first in
     (omega arith, λ h. omega arith)
 

@@ -11,8 +11,7 @@ use Rattle.bits.proofs.TestbitLaws.{by-lt, testbit-above, testbit-zero}
 use Rattle.bits.proofs.ValueLaws.{testbit-mask}
 use Rattle.bits.proofs.LengthLaws.{bitLength-least-bits}
 use Rattle.limbwords.specs.Value.{limbCount}
-use Rattle.limbwords.specs.Results.{bitsFrom, limbAt}
-use Rattle.limbwords.specs.Results.{continued}
+use Rattle.limbwords.specs.Results.{bitsFrom, limbAt, continued}
 use Rattle.limbwords.proofs.LimbLaws.{bitsFrom-lt, testbit-bitsFrom, bitsFrom-above, length-below, top-bit}
 
 -- the top bit of a continuing limb is that of the limb below it

@@ -7,8 +7,7 @@ ghost use lib.ListN.{length};
 ghost use Rattle.bits.specs.Testbit.{testbit};
 ghost use Rattle.bits.specs.Logical.{bitwise, bitwiseIf};
 ghost use Rattle.limbwords.specs.Value.{value};
-ghost use Rattle.limbwords.specs.Results.{limbAt};
-ghost use Rattle.limbwords.specs.Results.{logicOf};
+ghost use Rattle.limbwords.specs.Results.{limbAt, logicOf};
 use super::limb::limb;
 use super::result::Logic;
 

@@ -1,5 +1,5 @@
 -- What the writers promise each other. No public call's contract cites these.
---   Moved z y from to up down  ==  the bits of z from one position up to another are those of y, `up` places higher and `down` lower
+--   Moved z y from to up down  ==  the bits of z from one position up to another are those of y, `up` positions higher and `down` lower
 --   Past at from to r          ==  r is the first limb, from one index up to another, that does not lie whole below the position `at`
 use Prim.Native.Nat.{ℕ, _+_, _*_, _-_, _≤_, _<_}
 use mathlib.Core.Path.{_≡_}

@@ -2,8 +2,7 @@
 ghost use Prim.Native.Nat.{_+_, _*_, _-_, _<_, _≤_, _^_};
 ghost use lib.ListN.{length};
 ghost use Rattle.limbwords.specs.Value.{value};
-ghost use Rattle.limbwords.specs.Results.{bitsFrom, limbAt};
-ghost use Rattle.limbwords.specs.Results.{meaning, Proper};
+ghost use Rattle.limbwords.specs.Results.{bitsFrom, limbAt, meaning, Proper};
 ghost use Rattle.outcomes.specs.Puts.{Puts};
 use super::index::min;
 use super::index::saturating_sub;

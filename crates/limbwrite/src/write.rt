@@ -6,10 +6,9 @@ ghost use lib.ListN.{length};
 ghost use Rattle.bits.specs.Shift.{shiftLeft, shiftRight};
 ghost use Rattle.bits.specs.Field.{bitField, copyBitField, rotateBitField, reverseBitField};
 ghost use Rattle.limbwords.specs.Value.{value};
-ghost use Rattle.limbwords.specs.Results.{limbAt};
+ghost use Rattle.limbwords.specs.Results.{limbAt, meaning, Proper};
 ghost use Rattle.outcomes.specs.Puts.{Puts};
 ghost use Rattle.limbwrite.specs.Inner.{Moved};
-ghost use Rattle.limbwords.specs.Results.{meaning, Proper};
 use super::index::first_past;
 use super::index::saturating_sub;
 use super::logical::write_if;
@@ -20,7 +19,7 @@ use super::segment::put_zeros;
 use limbwords::field::reverse_limb;
 use limbwords::result::Operation;
 
-// Bits of the result, from one position up to another, that are bits of an operand: `up` places higher there and `down` lower.
+// Bits of the result, from one position up to another, that are bits of an operand: `up` positions higher there and `down` lower.
 pub struct Piece {
     pub from: u64,
     pub to: u64,

@@ -18,13 +18,13 @@ use Rattle.outcomes.proofs.PutsLaws.{puts-list}
 module _ {A : Type 0} where
   -- ---- room for the elements, or none
 
-  pub fitted-room : (xs out : List A) (first : ℕ) → length xs ≤ length out - first → fitted (done xs) out first ≡ done xs
+  pub fitted-enough : (xs out : List A) (first : ℕ) → length xs ≤ length out - first → fitted (done xs) out first ≡ done xs
   unfolding fitted capacity
-  fitted-room xs out first h = passed 8 (done xs) (le-leb (length xs) (length out - first) h)
+  fitted-enough xs out first h = passed 8 (done xs) (le-leb (length xs) (length out - first) h)
 
-  pub fitted-no-room : (xs out : List A) (first : ℕ) → length out - first < length xs → fitted (done xs) out first ≡ refuse 8
+  pub fitted-short : (xs out : List A) (first : ℕ) → length out - first < length xs → fitted (done xs) out first ≡ refuse 8
   unfolding fitted capacity
-  fitted-no-room xs out first h = failed 8 (done xs) (lt-leb (length xs) (length out - first) h)
+  fitted-short xs out first h = failed 8 (done xs) (lt-leb (length xs) (length out - first) h)
 
   -- ---- what was written, read back
 
@@ -46,17 +46,17 @@ module _ {A : Type 0} where
           → take (countOf (fitted (done xs) out first)) (drop first (afterwards (fitted (done xs) out first) out first)) ≡ xs
       go true e =
           let l = leb-true (length xs) (length out - first) e in
-          ap (λ (p : Outcome (List A)). take (countOf p) (drop first (afterwards p out first))) (fitted-room xs out first l)
+          ap (λ (p : Outcome (List A)). take (countOf p) (drop first (afterwards p out first))) (fitted-enough xs out first l)
           ∙ laid-copy out first xs (omega arith)
       go false e =
-          let z : _≡_ {A = ℕ} 8 0 = sym (ap refusalOf (fitted-no-room xs out first (leb-false (length xs) (length out - first) e))) ∙ q in
+          let z : _≡_ {A = ℕ} 8 0 = sym (ap refusalOf (fitted-short xs out first (leb-false (length xs) (length out - first) e))) ∙ q in
           absurd (omega arith)
 
   -- no more elements are counted than the buffer has from the first on
-  pub countOf-room : (o : Outcome (List A)) (out : List A) (first : ℕ) → countOf (fitted o out first) ≤ length out - first
+  pub countOf-capacity : (o : Outcome (List A)) (out : List A) (first : ℕ) → countOf (fitted o out first) ≤ length out - first
   unfolding fitted countOf capacity guard guardAt
-  countOf-room (refused k detail) out first = omega arith
-  countOf-room (done xs) out first = go (leb (length xs) (length out - first)) refl
+  countOf-capacity (refused k detail) out first = omega arith
+  countOf-capacity (done xs) out first = go (leb (length xs) (length out - first)) refl
     where
       go : (t : Bool) → leb (length xs) (length out - first) ≡ t → countOf (guard t 8 (done xs)) ≤ length out - first
       go true e = leb-true (length xs) (length out - first) e

@@ -18,8 +18,7 @@ use Rattle.text.specs.declared.LimbReading.{LimbReading}
 use Rattle.text.specs.declared.form.Parts.{Parts}
 use Rattle.text.specs.Numerals.{areDigits, numeral, isHex, isInteger, integer}
 use Rattle.text.specs.Readings.{enough, limbReading, Holds}
-use Rattle.text.specs.Inner.{parts}
-use Rattle.text.specs.Inner.{Lays}
+use Rattle.text.specs.Inner.{parts, Lays}
 use Rattle.text.proofs.ReadingParts.{hexadecimal-is, rest, rest-length, integer-is}
 use Rattle.text.proofs.NumeralLimbs.{numeral-below, put-length}
 

@@ -18,7 +18,7 @@ use Rattle.outcomes.proofs.OutcomeLaws.{passed, failed}
 use Rattle.limbwords.specs.Value.{value, limbsOf}
 use Rattle.limbwords.proofs.LimbLaws.{sign-last}
 use Rattle.text.specs.Numerals.{digits, hexLength, spelled}
-use Rattle.text.specs.Spellings.{hasRoom, spelling, Spells}
+use Rattle.text.specs.Spellings.{hasCapacity, spelling, Spells}
 use Rattle.text.specs.Inner.{natural}
 use Rattle.text.proofs.SpellNatural.{natural-nonnegative, natural-negative}
 use Rattle.text.proofs.SpellDigits.{length-digits}
@@ -69,13 +69,13 @@ abbrev pub hexadecimal : ℕ → List ℕ
 hexadecimal n = 48 ∷ 120 ∷ digits 16 (hexLength n) n
 
 module _ (xs out : List ℕ) where
-  enough-room : 0 < length xs → 8 * length xs + 3 ≤ length out → hasRoom xs out ≡ true
-  unfolding hasRoom
-  enough-room h l = ap₂ _&&_ (lt-ltb 0 (length xs) h) (le-leb (8 * length xs + 3) (length out) l)
+  has-capacity : 0 < length xs → 8 * length xs + 3 ≤ length out → hasCapacity xs out ≡ true
+  unfolding hasCapacity
+  has-capacity h l = ap₂ _&&_ (lt-ltb 0 (length xs) h) (le-leb (8 * length xs + 3) (length out) l)
 
-  no-room : (0 < length xs → 8 * length xs + 3 ≤ length out → ⊥) → hasRoom xs out ≡ false
-  unfolding hasRoom
-  no-room h = go (ltb 0 (length xs)) (leb (8 * length xs + 3) (length out)) refl refl
+  no-capacity : (0 < length xs → 8 * length xs + 3 ≤ length out → ⊥) → hasCapacity xs out ≡ false
+  unfolding hasCapacity
+  no-capacity h = go (ltb 0 (length xs)) (leb (8 * length xs + 3) (length out)) refl refl
     where
       go : (b c : Bool) → ltb 0 (length xs) ≡ b → leb (8 * length xs + 3) (length out) ≡ c → (b && c) ≡ false
       go true true p q = absurd (h (ltb-true 0 (length xs) p) (leb-true (8 * length xs + 3) (length out) q))
@@ -84,7 +84,7 @@ module _ (xs out : List ℕ) where
 
   pub spells-none : (0 < length xs → 8 * length xs + 3 ≤ length out → ⊥) → Spells xs out 0 out
   unfolding spelling countOf afterwards
-  spells-none h = let e = failed 8 (done (spelled (value xs))) (no-room h) in record { count = rw e refl; buffer = rw e refl }
+  spells-none h = let e = failed 8 (done (spelled (value xs))) (no-capacity h) in record { count = rw e refl; buffer = rw e refl }
 
   -- 0x and the digits of n, the absolute value, after a sign or none
   module _ (negative : Bool) (n r : ℕ) (out′ : List ℕ) where
@@ -107,7 +107,7 @@ module _ (xs out : List ℕ) where
 
         is-spelling : spelling xs out ≡ done text
         is-spelling =
-            passed 8 (done (spelled (value xs))) (enough-room h l)
+            passed 8 (done (spelled (value xs))) (has-capacity h l)
             ∙ ap₂ (λ (s : Bool) (m : ℕ). done (dash s ++ hexadecimal m)) signed (sym absolute)
 
         long : r ≡ length text

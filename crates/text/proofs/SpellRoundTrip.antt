@@ -23,7 +23,7 @@ use Rattle.text.specs.Numerals.{digit, areDigits, numeralFrom, numeral, 
 use Rattle.text.specs.declared.Reading.{Reading}
 use Rattle.text.specs.declared.LimbReading.{LimbReading}
 use Rattle.text.specs.Readings.{reading, enough, limbReading}
-use Rattle.text.specs.Spellings.{hasRoom, spelling, Spells}
+use Rattle.text.specs.Spellings.{hasCapacity, spelling, Spells}
 use Rattle.text.proofs.NumeralLaws.{digit-decimal, digit-lower, pow-hex, areDigits-append, numeral-append}
 use Rattle.text.proofs.SpellDigits.{length-digits}
 use Rattle.text.proofs.SpellBuffer.{dash}
@@ -109,7 +109,7 @@ integer-spelled z =
     ∙ withSign-natAbs z
 
 -- what spelling puts at the start of a buffer
-pub read-back : (xs out : List ℕ) (r : ℕ) (out′ : List ℕ) → Spells xs out r out′ → hasRoom xs out ≡ true
+pub read-back : (xs out : List ℕ) (r : ℕ) (out′ : List ℕ) → Spells xs out r out′ → hasCapacity xs out ≡ true
     → (isInteger (take r out′) ≡ true) × (integer (take r out′) ≡ value xs)
 unfolding spelling countOf afterwards
 read-back xs out r out′ s h = (ap isInteger put ∙ isInteger-spelled (value xs), ap integer put ∙ integer-spelled (value xs))

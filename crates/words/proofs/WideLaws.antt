@@ -46,12 +46,12 @@ sum-across b sum m n e =
     sum-less (not b) sum n m e ∙ ap (λ (a : Bool). withSign (not b) n +ℤ withSign a m) (not-not b) ∙ +ℤ-comm (withSign (not b) n) (withSign b m)
 
 -- on words: n is above the low word, and the high word is 0, or lends
-pub lend-none : (high low n : ℕ) → high ≡ 0 → low < n → 0 * 2 ^ 64 + (n - low) + (high * 2 ^ 64 + low) ≡ n
-lend-none high low n e h = omega arith
+pub borrow-none : (high low n : ℕ) → high ≡ 0 → low < n → 0 * 2 ^ 64 + (n - low) + (high * 2 ^ 64 + low) ≡ n
+borrow-none high low n e h = omega arith
 
-pub lend : (high low n : ℕ) → 0 < high → low < n → n < 2 ^ 64
+pub borrow : (high low n : ℕ) → 0 < high → low < n → n < 2 ^ 64
     → (high - 1) * 2 ^ 64 + (18446744073709551615 - (n - low - 1)) + n ≡ high * 2 ^ 64 + low
-lend high low n p h k = omega arith
+borrow high low n p h k = omega arith
 
 -- the bound on the high word
 pub wide-high : (s : Wide) (k : ℕ) → natAbs (wideValue s) < 2 ^ (k + 64) → s .high < 2 ^ k

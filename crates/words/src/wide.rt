@@ -53,8 +53,8 @@ fn grow(s: Wide, n: u64) -> Wide
     requires { ⌜ natAbs (wideValue s) < 2 ^ 127 ⌝ }
     ensures { λ r. ⌜ wideValue r ≡ wideValue s +ℤ withSign (s .negative) n ⌝ }
 {
-    let room = 0xFFFF_FFFF_FFFF_FFFF - s.low;
-    if n <= room {
+    let free = 0xFFFF_FFFF_FFFF_FFFF - s.low;
+    if n <= free {
         Wide {
             negative: s.negative,
             high: s.high,
@@ -64,7 +64,7 @@ fn grow(s: Wide, n: u64) -> Wide
         Wide {
             negative: s.negative,
             high: s.high + 1,
-            low: n - room - 1,
+            low: n - free - 1,
         }
     }
 }

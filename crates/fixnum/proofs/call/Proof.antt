@@ -4,11 +4,10 @@ use mathlib.Core.Bool.{true}
 use borrow.Author.Tests.{not-true, not-false}
 use Rattle.fxtable.specs.Domains.{isWidth}
 use Rattle.fxtable.specs.Table.{isCode}
-use Rattle.fxtable.specs.Calls.{isCount, fixnumAnswer}
+use Rattle.fxtable.specs.Calls.{isCount, fixnumAnswer, answer}
 use Rattle.fxtable.specs.Inner.{Accepted}
 use Rattle.fxtable.proofs.TableLaws.{at-most-four, code-bounds}
 use Rattle.outcomes.proofs.OutcomeLaws.{passed, failed}
-use Rattle.fxtable.specs.Calls.{answer}
 use Rattle.fxtable.proofs.CallLaws.{accepted}
 use borrow.Author.Needs.{needs}
 use Rattle.fixnum.proofs.call.Statement.{statement}

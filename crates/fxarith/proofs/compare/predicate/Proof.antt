@@ -13,11 +13,10 @@ use mir.Val.{toZ, ofZ}
 use Rattle.bits.specs.Testbit.{odd}
 use Rattle.words.proofs.WordLaws.{back-word}
 use Rattle.outcomes.specs.Outcome.{done}
-use Rattle.fxtable.specs.Calls.{answer}
+use Rattle.fxtable.specs.Calls.{answer, counted, outcome}
 use Rattle.fxtable.specs.Domains.{arg}
 use Rattle.fxtable.specs.Operations.{single, truth, isZero, isPositive, isBelowZero, isOdd, isEven}
 use Rattle.fxtable.specs.Table.{row, rows, rowOf}
-use Rattle.fxtable.specs.Calls.{counted, outcome}
 use Rattle.fxtable.proofs.CallLaws.{done-cong, never-checked}
 use Rattle.fxtable.proofs.MeaningLaws.{one-outcome}
 use Rattle.fxarith.proofs.compare.predicate.Statement.{statement}

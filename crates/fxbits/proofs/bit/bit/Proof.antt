@@ -12,11 +12,10 @@ use Rattle.bits.specs.Division.{mod0}
 use Rattle.bits.specs.Field.{copyBit}
 use Rattle.words.proofs.WordLaws.{back-word}
 use Rattle.outcomes.specs.Outcome.{done}
-use Rattle.fxtable.specs.Calls.{answer}
+use Rattle.fxtable.specs.Calls.{answer, counted, outcome}
 use Rattle.fxtable.specs.Domains.{arg, domainAt}
 use Rattle.fxtable.specs.Operations.{truth, question}
 use Rattle.fxtable.specs.Table.{rows, rowOf}
-use Rattle.fxtable.specs.Calls.{counted, outcome}
 use Rattle.fxtable.proofs.CallLaws.{width-bounds, done-cong, done-word, never-checked}
 use Rattle.fxtable.proofs.MeaningLaws.{two-outcome, three-outcome}
 use Rattle.fxtable.proofs.DomainLaws.{domainOf}

@@ -13,11 +13,10 @@ use Rattle.bits.specs.Count.{bitCount, firstBitSet}
 use Rattle.words.proofs.WordLaws.{back}
 use Rattle.fxtable.specs.declared.answer.Answer.{Answer}
 use Rattle.outcomes.specs.Outcome.{done}
-use Rattle.fxtable.specs.Calls.{answer}
+use Rattle.fxtable.specs.Calls.{answer, counted, outcome}
 use Rattle.fxtable.specs.Domains.{arg}
 use Rattle.fxtable.specs.Operations.{one}
 use Rattle.fxtable.specs.Table.{rows, row, rowOf}
-use Rattle.fxtable.specs.Calls.{counted, outcome}
 use Rattle.fxtable.specs.Inner.{Accepted}
 use Rattle.fxtable.proofs.CallLaws.{done-never}
 use Rattle.fxtable.proofs.MeaningLaws.{one-outcome}

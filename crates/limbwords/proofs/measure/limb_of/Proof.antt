@@ -4,8 +4,7 @@ use mathlib.Core.Path.{_≡_, sym, ap, _∙_, subst}
 use lib.IntN.{ℤ}
 use lib.ListN.{length}
 use Rattle.limbwords.specs.declared.result.Operation.{Operation}
-use Rattle.limbwords.specs.Results.{bitsFrom}
-use Rattle.limbwords.specs.Results.{meaning, Proper}
+use Rattle.limbwords.specs.Results.{bitsFrom, meaning, Proper}
 use borrow.Author.Needs.{needs}
 use Rattle.limbwords.proofs.measure.limb_of.Statement.{statement}
 use Rattle.limbwords.proofs.measure.limb_of.Tie as tie

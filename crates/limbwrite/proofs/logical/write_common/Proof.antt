@@ -4,8 +4,7 @@ use native.Mathlib.Omega.{arith}
 use borrow.Author.Needs.{needs}
 use Rattle.bits.specs.Logical.{bitwise}
 use Rattle.limbwords.specs.Value.{value}
-use Rattle.limbwords.specs.Results.{limbAt}
-use Rattle.limbwords.specs.Results.{logicOf}
+use Rattle.limbwords.specs.Results.{limbAt, logicOf}
 use Rattle.limbwords.proofs.LogicalLaws.{limb-bitwise}
 use Rattle.outcomes.proofs.PutsLaws.{Turn, turn-none, turn-more, turn-all}
 use Rattle.limbwrite.proofs.logical.write_common.Statement.{statement}

@@ -3,8 +3,7 @@ use Prim.Native.Nat.{_-_}
 use native.Mathlib.Omega.{arith}
 use Rattle.bits.specs.Logical.{bitwise}
 use Rattle.limbwords.specs.Value.{value}
-use Rattle.limbwords.specs.Results.{limbAt}
-use Rattle.limbwords.specs.Results.{logicOf}
+use Rattle.limbwords.specs.Results.{limbAt, logicOf}
 use Rattle.outcomes.proofs.PutsLaws.{Turn, turn-none, turn-more, turn-all}
 use Rattle.limbwrite.proofs.logical.write_padded.Statement.{statement}
 use Rattle.limbwrite.proofs.logical.write_padded.Tie as tie

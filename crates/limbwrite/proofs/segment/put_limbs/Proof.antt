@@ -2,8 +2,7 @@
 use native.Mathlib.Omega.{arith}
 use Prim.Native.Nat.{_-_}
 use Rattle.limbwords.specs.Value.{value}
-use Rattle.limbwords.specs.Results.{limbAt}
-use Rattle.limbwords.specs.Results.{meaning}
+use Rattle.limbwords.specs.Results.{limbAt, meaning}
 use Rattle.outcomes.proofs.PutsLaws.{Turn, turn-none, turn-more, turn-all}
 use Rattle.limbwrite.proofs.segment.put_limbs.Statement.{statement}
 use Rattle.limbwrite.proofs.segment.put_limbs.Tie as tie

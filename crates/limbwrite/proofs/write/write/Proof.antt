@@ -4,9 +4,8 @@ use mathlib.Core.Path.{_≡_, sym, subst}
 use mathlib.Core.List.{List}
 use lib.IntN.{ℤ}
 use Rattle.limbwords.specs.declared.result.Operation.{Operation}
-use Rattle.limbwords.specs.Results.{limbAt}
+use Rattle.limbwords.specs.Results.{limbAt, meaning, Proper}
 use Rattle.outcomes.specs.Puts.{Puts}
-use Rattle.limbwords.specs.Results.{meaning, Proper}
 use borrow.Author.Needs.{needs}
 use Rattle.limbwrite.proofs.write.write.Statement.{statement}
 use Rattle.limbwrite.proofs.write.write.Tie as tie

@@ -1,7 +1,7 @@
 -- `words::wide::shrink` meets its contract. Assumes nothing.
 use native.Mathlib.Omega.{arith}
 use Rattle.words.specs.Wide.{wideValue}
-use Rattle.words.proofs.WideLaws.{sum-less, sum-across, lend-none, lend}
+use Rattle.words.proofs.WideLaws.{sum-less, sum-across, borrow-none, borrow}
 use borrow.Author.Needs.{needs}
 use Rattle.words.proofs.wide.shrink.Statement.{statement}
 use Rattle.words.proofs.wide.shrink.Tie as tie
@@ -12,11 +12,11 @@ returns c = sum-less _ _ _ _ (omega arith)
 
 returns-2 : tie.Need-returns-2
 unfolding wideValue
-returns-2 c = sum-across _ _ _ _ (lend-none _ _ _ (omega arith) (omega arith))
+returns-2 c = sum-across _ _ _ _ (borrow-none _ _ _ (omega arith) (omega arith))
 
 returns-3 : tie.Need-returns-3
 unfolding wideValue
-returns-3 c = sum-less _ _ _ _ (lend _ _ _ (omega arith) (omega arith) (omega arith))
+returns-3 c = sum-less _ _ _ _ (borrow _ _ _ (omega arith) (omega arith) (omega arith))
 
 pub shrink-spec : {M : Type 1} → statement M
 shrink-spec =
