@@ -6,7 +6,7 @@ use mathlib.Core.Bool.{Bool, true}
 use mathlib.Core.List.{List, []}
 use lib.Dec.{eqb, lit<}
 use lib.IntN.{ℤ, natAbs, _+ℤ_, _*ℤ_}
-use Rattle.words.proofs.PartBounds.{signed, sum-parts, product-parts}
+use Rattle.widewords.proofs.PartBounds.{signed, sum-parts, product-parts}
 use Rattle.bits.specs.Testbit.{fits}
 use Rattle.fxtable.specs.Domains.{arg}
 use Rattle.fxtable.specs.Operations.{carry}

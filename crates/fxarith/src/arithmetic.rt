@@ -6,11 +6,11 @@ ghost use Rattle.fxtable.specs.Inner.{Accepted};
 use fxtable::answer::Answer;
 use fxtable::overflow::checked;
 use fxtable::overflow::exact;
+use widewords::wide::add_word;
+use widewords::wide::product;
+use widewords::wide::widen;
 use words::sign::absolute;
 use words::sign::is_negative;
-use words::wide::add_word;
-use words::wide::product;
-use words::wide::widen;
 
 // fx+ fx* fx-: only fx- takes one argument.
 pub fn arithmetic(width: u64, code: u64, args: [i64; 4], count: u64) -> Answer

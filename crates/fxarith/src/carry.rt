@@ -3,7 +3,7 @@ ghost use mathlib.Core.Path.{_≡_};
 ghost use mathlib.Core.Bool.{true};
 ghost use Prim.Native.Nat.{_+_, _≤_, _<_, _^_};
 ghost use lib.IntN.{natAbs};
-ghost use Rattle.words.specs.Wide.{wideValue};
+ghost use Rattle.widewords.specs.Wide.{wideValue};
 ghost use Rattle.outcomes.specs.Outcome as outcomes;
 ghost use Rattle.fxtable.specs.Operations.{partsOf};
 ghost use Rattle.fxtable.specs.Domains.{isWidth};
@@ -11,12 +11,12 @@ ghost use Rattle.fxtable.specs.Calls.{answer, counted, outcome};
 ghost use Rattle.fxtable.specs.Inner.{Accepted};
 use fxtable::answer::Answer;
 use fxtable::answer::done;
-use words::parts::high_part;
-use words::parts::low_part;
-use words::wide::Wide;
-use words::wide::add_word;
-use words::wide::product;
-use words::wide::widen;
+use widewords::parts::high_part;
+use widewords::parts::low_part;
+use widewords::wide::Wide;
+use widewords::wide::add_word;
+use widewords::wide::product;
+use widewords::wide::widen;
 
 fn parts(width: u64, s: Wide) -> Answer
     requires { ⌜ isWidth width ≡ true ⌝ }

@@ -6,7 +6,7 @@ ghost use Rattle.fxtable.specs.Inner.{Accepted};
 use fxtable::answer::Answer;
 use fxtable::answer::done;
 use fxtable::overflow::checked;
-use words::division;
+use widewords::division;
 use words::sign::from_absolute;
 
 pub fn divide(width: u64, code: u64, args: [i64; 4], count: u64) -> Answer

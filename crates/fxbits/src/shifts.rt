@@ -11,12 +11,12 @@ ghost use Rattle.fxtable.specs.Inner.{Accepted};
 use fxtable::answer::Answer;
 use fxtable::answer::done;
 use fxtable::overflow::exact;
+use widewords::wide::multiply;
 use words::sign::absolute;
 use words::sign::from_magnitude;
 use words::sign::is_negative;
 use words::sign::magnitude;
 use words::sign::power;
-use words::wide::multiply;
 
 // x * 2^k
 fn left(width: u64, x: i64, k: u64) -> Answer

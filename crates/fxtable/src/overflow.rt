@@ -4,16 +4,16 @@ ghost use mathlib.Core.Bool.{true};
 ghost use Prim.Native.Nat.{_<_};
 ghost use lib.IntN.{pos};
 ghost use Rattle.words.specs.Sign.{withSign};
-ghost use Rattle.words.specs.Wide.{wideValue};
+ghost use Rattle.widewords.specs.Wide.{wideValue};
 ghost use Rattle.fxtable.specs.Calls.{answer};
 ghost use Rattle.fxtable.specs.Domains.{isWidth};
 ghost use Rattle.fxtable.specs.Calls as calls;
 use super::answer::Answer;
 use super::answer::done;
 use super::answer::refuse;
+use widewords::wide::Wide;
 use words::sign::absolute_fits;
 use words::sign::from_absolute;
-use words::wide::Wide;
 
 // A result with a sign and an absolute value, or the refusal for overflow.
 pub fn checked(overflow: u64, width: u64, negative: bool, n: u64, second: i64) -> Answer

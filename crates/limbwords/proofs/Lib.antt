@@ -5,4 +5,4 @@ pub mod SpliceLaws
 pub mod FieldLimbs
 pub mod LogicalLaws
 pub mod MeasureLaws
-pub mod CountLimbs
+pub mod SignLimbs

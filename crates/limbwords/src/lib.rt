@@ -1,6 +1,5 @@
 // Limbs of 32 bits: the integer that they mean, each limb of the result of an operation, and how many limbs a result needs.
 // What a caller must show stands in `requires`: these functions are for `limbs`, which checks operands and numbers.
-pub mod count;
 pub mod field;
 pub mod limb;
 pub mod logical;

@@ -6,11 +6,6 @@ pub mod RotateWords
 pub mod SwapLaws
 pub mod CountWords
 pub mod LogicalWords
-pub mod DivisionWords
 pub mod FieldLaws
 pub mod ReverseLaws
 pub mod SignedLaws
-pub mod Columns
-pub mod WideLaws
-pub mod PartLaws
-pub mod PartBounds

@@ -1,3 +1,1 @@
 pub mod Sign
-pub mod Wide
-pub mod Division

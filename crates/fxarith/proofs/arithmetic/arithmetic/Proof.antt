@@ -7,7 +7,7 @@ use mir.Syntax.{w64}
 use mir.Val.{SFits}
 use Rattle.words.proofs.WordLaws.{back}
 use Rattle.words.proofs.SignedLaws.{withSign-not, rejoin}
-use Rattle.words.proofs.WideLaws.{word-room}
+use Rattle.widewords.proofs.WideLaws.{word-room}
 use Rattle.fxtable.specs.Domains.{arg}
 use Rattle.fxtable.specs.Table.{rows, rowOf}
 use Rattle.fxtable.proofs.CallLaws.{checked-cong}

@@ -7,10 +7,10 @@ use lib.Dec.{eqb}
 use lib.IntN.{ℤ, natAbs, _+ℤ_, _*ℤ_}
 use mir.Syntax.{w64}
 use mir.Val.{SFits}
-use Rattle.words.specs.Wide.{wideValue}
+use Rattle.widewords.specs.Wide.{wideValue}
 use Rattle.words.proofs.WordLaws.{back}
-use Rattle.words.proofs.PartBounds.{signed, natAbs-signed}
-use Rattle.words.proofs.WideLaws.{word-room, sum-room, product-room}
+use Rattle.widewords.proofs.PartBounds.{signed, natAbs-signed}
+use Rattle.widewords.proofs.WideLaws.{word-room, sum-room, product-room}
 use Rattle.outcomes.specs.Outcome.{done}
 use Rattle.fxtable.specs.Calls.{answer}
 use Rattle.fxtable.specs.Domains.{arg}

@@ -1,7 +1,7 @@
 -- `fxtable::overflow::exact` meets its contract. Assumes nothing.
 use mathlib.Core.Path.{refl, sym, _∙_}
 use native.Mathlib.Omega.{arith}
-use Rattle.words.proofs.WideLaws.{one-word, two-words-large}
+use Rattle.widewords.proofs.WideLaws.{one-word, two-words-large}
 use Rattle.fxtable.proofs.CallLaws.{width-bounds, checked-cong, checked-large}
 use borrow.Author.Needs.{needs}
 use Rattle.fxtable.proofs.overflow.exact.Statement.{statement}

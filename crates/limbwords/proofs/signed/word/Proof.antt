@@ -11,7 +11,7 @@ use Rattle.words.specs.Sign.{ofMagnitude}
 use Rattle.bits.proofs.LengthLaws.{mag-lt}
 use Rattle.words.proofs.MagnitudeLaws.{ofMagnitude-mag}
 use Rattle.limbwords.specs.Value.{value}
-use Rattle.limbwords.proofs.CountLimbs.{operand-sign, two-limbs}
+use Rattle.limbwords.proofs.SignLimbs.{operand-sign, two-limbs}
 use Rattle.limbwords.proofs.signed.word.Statement.{statement}
 use Rattle.limbwords.proofs.signed.word.Tie as tie
 

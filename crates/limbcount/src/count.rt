@@ -1,0 +1,83 @@
+// What is counted of an operand's bits. A negative integer is counted by its complement: each limb exclusive or with what
+// continues the operand.
+ghost use mathlib.Core.Path.{_≡_};
+ghost use Prim.Native.Nat.{_≤_, _<_};
+ghost use lib.IntN.{pos};
+ghost use lib.ListN.{length};
+ghost use Rattle.bits.specs.Testbit.{bitLength};
+ghost use Rattle.bits.specs.Count.{ones, bitCount, firstBitSet};
+ghost use Rattle.limbwords.specs.Value.{value};
+use limbwords::limb::padding;
+use words::sign::from_magnitude;
+
+// How many ones a limb has.
+fn ones_of(w: u32) -> u64
+    ensures { λ r. ⌜ r ≡ ones w ⌝ }
+{
+    let mut rest = w;
+    let mut n = 0;
+    while rest != 0 {
+        n += (rest % 2) as u64;
+        rest /= 2;
+    }
+    n
+}
+
+// How many bits a limb has, without leading zeros.
+fn length_of(w: u32) -> u64
+    ensures { λ r. ⌜ r ≡ bitLength (pos w) ⌝ }
+{
+    32 - (u32::leading_zeros(w) as u64)
+}
+
+pub fn bit_count(x: &[u32]) -> i64
+    requires { ⌜ (0 < length (now x)) × (length (now x) ≤ 1024) ⌝ }
+    ensures { λ r. ⌜ r ≡ bitCount (value (now (x .entry))) ⌝ }
+{
+    let sign = padding(x);
+    let mut n = 0u64;
+    let mut j = 0;
+    while j < x.len() {
+        n += ones_of(x[j] ^ sign);
+        j += 1;
+    }
+    from_magnitude(sign != 0, n)
+}
+
+// From the last limb downwards to one that does not only continue the sign.
+pub fn bit_length(x: &[u32]) -> u64
+    requires { ⌜ (0 < length (now x)) × (length (now x) ≤ 1024) ⌝ }
+    ensures { λ r. ⌜ r ≡ bitLength (value (now (x .entry))) ⌝ }
+{
+    let sign = padding(x);
+    let mut n = x.len();
+    while 0 < n {
+        let top = x[n - 1];
+        if top != sign {
+            return 32 * ((n - 1) as u64) + length_of(top ^ sign);
+        }
+        n -= 1;
+    }
+    0
+}
+
+// The lowest limb that is not zero, and in it the lowest one.
+pub fn first_bit_set(x: &[u32]) -> i64
+    requires { ⌜ (0 < length (now x)) × (length (now x) ≤ 1024) ⌝ }
+    ensures { λ r. ⌜ r ≡ firstBitSet (value (now (x .entry))) ⌝ }
+{
+    let mut j = 0;
+    'limbs: loop {
+        if j == x.len() {
+            break 'limbs -1;
+        }
+        let mut i = 0;
+        while i < 32 {
+            if (x[j] >> i) % 2 == 1 {
+                break 'limbs (32 * j + i) as i64;
+            }
+            i += 1;
+        }
+        j += 1;
+    }
+}
