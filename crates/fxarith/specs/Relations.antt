@@ -1,4 +1,4 @@
--- What the relations of codes 1 to 5 mean.
+-- What the relations of codes 1 to 5 mean. No public call's contract cites these.
 --   holds relation x y    ==  whether x stands in the relation to y
 use mathlib.Core.Bool.{Bool}
 use lib.IntN.{ℤ}

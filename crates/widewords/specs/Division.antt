@@ -1,4 +1,4 @@
--- What a division by b > 0, or by y with |y| = b, must answer.
+-- What a division by b > 0, or by y with |y| = b, must answer. No public call's contract cites these.
 --   Allowed nearest b m     ==  whether m may be the remainder: -b <= 2 m < b where nearest, and else 0 <= m < b
 --   Divided nearest x y q   ==  q holds div0 and mod0 of x by y where nearest, and else div and mod
 use Prim.Native.Nat.{ℕ}

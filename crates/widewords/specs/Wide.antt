@@ -1,4 +1,4 @@
--- An integer of two words with a sign.
+-- An integer of two words with a sign. No public call's contract cites it.
 --   wideValue s      ==  high * 2^64 + low, or the negative of that
 use Prim.Native.Nat.{_+_, _*_, _^_}
 use lib.IntN.{ℤ}
