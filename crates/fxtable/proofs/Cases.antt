@@ -18,7 +18,7 @@ use Rattle.outcomes.specs.Outcome.{Outcome, done, refuse, guard, guardAt}
 use Rattle.fxtable.specs.declared.answer.Answer.{Answer}
 use Rattle.fxtable.specs.Calls.{answer, counted, isCount, allFixnums, checked, outcome, fixnumAnswer}
 use Rattle.fxtable.specs.Domains.{leastWidth, largestWidth, isWidth, arg, accepts, inDomainsFrom, inDomains}
-use Rattle.fxtable.specs.Operations.{resultsOf, partsOf, truth, equal, greater, greaterOrEqual, chainFrom, chain, isZero, isPositive, isBelowZero, isOdd, isEven, foldFrom, larger, smaller, largest, smallest, minus}
+use Rattle.fxtable.specs.Operations.{resultsOf, hasTwo, partsOf, truth, equal, greater, greaterOrEqual, chainFrom, chain, isZero, isPositive, isBelowZero, isOdd, isEven, foldFrom, larger, smaller, largest, smallest, minus}
 use Rattle.fxtable.specs.Table.{rows, noRow, isCode, rowOf}
 
 abbrev neg : ℕ → ℤ
@@ -129,6 +129,10 @@ rowCounts =
     ∷ takes 40 40 4 4
     ∷ takes 41 41 3 3
     ∷ []
+
+-- codes 18 and 21 to 24 have two results, and no other number has
+abbrev rowResults : List Bool
+rowResults = allFrom (λ code. Bool·beq (hasTwo (rowOf code .results)) (eqb code 18 || (leb 21 code && leb code 24))) 0 43 ∷ []
 
 -- both sides of each limit of a domain, at a width
 abbrev rowLimits : ℕ → List Bool
@@ -277,11 +281,11 @@ programs =
     ∷ gives 24 14 (pos 4194304 ∷ pos 2 ∷ []) 2 (refuse 6)
     ∷ []
 
-pub cases-rows : (all rowAnswers ≡ true) × (all rowCounts ≡ true) × (all (rowLimits 24) ≡ true) × (all (rowLimits 62) ≡ true) × (all rowRanges ≡ true) × (all programs ≡ true)
+pub cases-rows : (all rowAnswers ≡ true) × (all rowCounts ≡ true) × (all rowResults ≡ true) × (all (rowLimits 24) ≡ true) × (all (rowLimits 62) ≡ true) × (all rowRanges ≡ true) × (all programs ≡ true)
 unfolding xor odd testbit halvings bitLength consBit ofBits fits isNegative fill bitwise bitwiseNot bitwiseAnd bitwiseIor bitwiseXor bitwiseIf bitwiseFrom bitwiseAll bitwiseAnds bitwiseIors bitwiseXors
     onesBelow ones bitCount firstTrue firstBitSet floorDiv shiftLeft shiftRight arithmeticShift div modℕ «mod» div0 mod0
     inField rotateIndex reverseIndex setField permuteField bitField copyBit copyBitField rotateBitField reverseBitField
-    guard guardAt answer leastWidth largestWidth isWidth arg within accepts inDomainsFrom inDomains resultsOf partsOf
+    guard guardAt answer leastWidth largestWidth isWidth arg within accepts inDomainsFrom inDomains resultsOf hasTwo partsOf
     truth equal greater greaterOrEqual chainFrom chain isZero isPositive isBelowZero isOdd isEven foldFrom larger smaller largest smallest minus
     rows noRow isCode rowOf counted isCount allFixnums checked outcome fixnumAnswer
-cases-rows = (refl, refl, refl, refl, refl, refl)
+cases-rows = (refl, refl, refl, refl, refl, refl, refl)
