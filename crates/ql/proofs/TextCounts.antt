@@ -16,7 +16,7 @@ use Rattle.limbwords.proofs.ValueLaws.{length-shortest}
 use Rattle.text.specs.declared.LimbReading.{LimbReading}
 use Rattle.text.specs.Numerals.{isHex, isInteger, integer}
 use Rattle.text.specs.Readings.{enough, limbReading, Holds}
-use Rattle.text.specs.Spellings.{spelling, Spells}
+use Rattle.spelling.specs.Spellings.{spelling, Spells}
 
 isLimbs : LimbReading → Bool
 isLimbs (LimbReading.Limbs n) = true

@@ -45,7 +45,7 @@ fn print_limbs(x: &mut [u32]) {
         print(b" ");
     }
     let mut space = text_space();
-    let n = text::spell_limbs(x, &mut space);
+    let n = spelling::spell_limbs(x, &mut space);
     print(&space[..n]);
     print(b"\n");
 }

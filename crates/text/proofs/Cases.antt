@@ -2,12 +2,12 @@
 use mathlib.Core.Path.{_≡_, refl}
 use mathlib.Core.List.{[], _∷_}
 use lib.IntN.{pos, negsuc}
-use Rattle.bits.specs.Testbit.{halvings, bitLength, isNegative, fits}
+use Rattle.bits.specs.Testbit.{halvings, bitLength, fits}
 use Rattle.words.specs.Sign.{withSign}
 use Rattle.limbwords.specs.Value.{limbCount}
 use Rattle.text.specs.declared.Reading.{Reading}
 use Rattle.text.specs.declared.LimbReading.{LimbReading}
-use Rattle.text.specs.Numerals.{between, digit, areDigits, numeralFrom, numeral, byteAt, isMinus, afterSign, isPrefix, isHex, base, digitsFrom, isInteger, integer, glyph, digits, hexLength, spelled}
+use Rattle.text.specs.Numerals.{between, digit, areDigits, numeralFrom, numeral, byteAt, isMinus, afterSign, isPrefix, isHex, base, digitsFrom, isInteger, integer}
 use Rattle.text.specs.Readings.{reading, enough, limbReading}
 
 -- -0x1F, +7, 0, -2^63, 2^63; no text, a sign alone, 0x alone, 1F, --1
@@ -25,12 +25,10 @@ pub cases-read :
 unfolding between digit areDigits numeralFrom numeral byteAt isMinus afterSign isPrefix isHex base digitsFrom isInteger integer reading withSign fits bitLength halvings
 cases-read = (refl, refl, refl, refl, refl, refl, refl, refl, refl, refl)
 
--- -0x100000000 in buffers of three limbs and of two; and what is written of it and of 0
+-- -0x100000000 in buffers of three limbs and of two
 pub cases-limbs :
     (limbReading (45 ∷ 48 ∷ 120 ∷ 49 ∷ 48 ∷ 48 ∷ 48 ∷ 48 ∷ 48 ∷ 48 ∷ 48 ∷ 48 ∷ []) 3 ≡ LimbReading.Limbs 2)
     × (limbReading (45 ∷ 48 ∷ 120 ∷ 49 ∷ 48 ∷ 48 ∷ 48 ∷ 48 ∷ 48 ∷ 48 ∷ 48 ∷ 48 ∷ []) 2 ≡ LimbReading.TooLarge)
-    × (spelled (negsuc 4294967295) ≡ 45 ∷ 48 ∷ 120 ∷ 49 ∷ 48 ∷ 48 ∷ 48 ∷ 48 ∷ 48 ∷ 48 ∷ 48 ∷ 48 ∷ [])
-    × (spelled (pos 0) ≡ 48 ∷ 120 ∷ 48 ∷ [])
 unfolding between digit areDigits numeralFrom numeral byteAt isMinus afterSign isPrefix isHex base digitsFrom isInteger integer enough limbReading limbCount
-    glyph digits hexLength spelled withSign isNegative bitLength halvings
-cases-limbs = (refl, refl, refl, refl)
+    withSign bitLength halvings
+cases-limbs = (refl, refl)

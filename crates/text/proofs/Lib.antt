@@ -6,7 +6,3 @@ pub mod ReadingLaws
 pub mod ReadingLimbs
 pub mod ReadingBuffer
 pub mod NegateLaws
-pub mod SpellNatural
-pub mod SpellDigits
-pub mod SpellBuffer
-pub mod SpellRoundTrip

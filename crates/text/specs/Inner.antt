@@ -2,11 +2,10 @@
 --   Lays z fits r out    ==  r counts the limbs of the shortest form of z, and the buffer begins with them, where they fit
 --   parts cs             ==  the sign, whether the digits are hexadecimal, and where they begin
 --   asWord n             ==  a number, where it is below 2^64
---   natural xs           ==  the number that limbs are without a sign
-use Prim.Native.Nat.{ℕ, _+_, _*_, _^_}
+use Prim.Native.Nat.{ℕ, _^_}
 use mathlib.Core.Path.{_≡_}
 use mathlib.Core.Bool.{Bool, true, cond}
-use mathlib.Core.List.{List, [], _∷_}
+use mathlib.Core.List.{List}
 use lib.Dec.{ltb}
 use lib.IntN.{ℤ}
 use lib.ListN.{take}
@@ -25,7 +24,3 @@ parts cs = record { negative = isMinus cs; hexadecimal = isHex cs; start = digit
 
 unfoldable pub asWord : ℕ → Natural
 asWord n = cond (ltb n (2 ^ 64)) (Natural.Value n) Natural.Beyond
-
-unfoldable pub natural : List ℕ → ℕ
-natural [] = 0
-natural (n ∷ ns) = n + 2 ^ 32 * natural ns

@@ -1,4 +1,3 @@
 pub mod Numerals
 pub mod Readings
-pub mod Spellings
 pub mod Inner

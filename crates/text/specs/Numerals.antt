@@ -9,17 +9,12 @@
 --   digitsFrom cs     ==  where the digits begin: after the sign, and after 0x
 --   isInteger cs      ==  whether the text is an integer: a sign or none, 0x or not, and one digit or more
 --   integer cs        ==  the integer that it is
---   glyph d           ==  the byte of a digit, in lower case
---   digits b k n      ==  the last k digits of n in base b, the most significant first
---   hexLength n       ==  how many hexadecimal digits n has, at least one
---   spelled z         ==  the text of an integer in hexadecimal: a - where it is negative, 0x, and no zero in front
-use Prim.Native.Nat.{ℕ, zero, suc, _+_, _-_, _*_, _/_, _%_, max}
+use Prim.Native.Nat.{ℕ, _+_, _-_, _*_}
 use mathlib.Core.Bool.{Bool, true, cond, _&&_, _||_}
-use mathlib.Core.List.{List, [], _∷_, _++_}
+use mathlib.Core.List.{List, [], _∷_}
 use lib.Dec.{eqb, leb, ltb}
-use lib.IntN.{ℤ, pos, natAbs}
+use lib.IntN.{ℤ}
 use lib.ListN.{length, getD, drop}
-use Rattle.bits.specs.Testbit.{isNegative, bitLength}
 use Rattle.words.specs.Sign.{withSign}
 
 unfoldable pub between : ℕ → ℕ → ℕ → Bool
@@ -65,16 +60,3 @@ isInteger cs = ltb (digitsFrom cs) (length cs) && areDigits (base cs) (drop (dig
 
 unfoldable pub integer : List ℕ → ℤ
 integer cs = withSign (isMinus cs) (numeral (base cs) (drop (digitsFrom cs) cs))
-
-unfoldable pub glyph : ℕ → ℕ
-glyph d = cond (ltb d 10) (48 + d) (87 + d)
-
-unfoldable pub digits : ℕ → ℕ → ℕ → List ℕ
-digits b zero n = []
-digits b (suc k) n = digits b k (n / b) ++ (glyph (n % b) ∷ [])
-
-unfoldable pub hexLength : ℕ → ℕ
-hexLength n = max 1 ((bitLength (pos n) + 3) / 4)
-
-unfoldable pub spelled : ℤ → List ℕ
-spelled z = cond (isNegative z) (45 ∷ []) [] ++ (48 ∷ 120 ∷ digits 16 (hexLength (natAbs z)) (natAbs z))

@@ -1,6 +1,5 @@
 // Digits.
 ghost use mathlib.Core.Path.{_≡_};
-ghost use Prim.Native.Nat.{_<_};
 ghost use Rattle.text.specs.Numerals as numerals;
 ghost use Rattle.text.specs.Numerals.{areDigits};
 
@@ -27,12 +26,4 @@ pub fn are_digits(base: u64, text: &[u8]) -> bool
         i += 1;
     }
     true
-}
-
-// The byte of a digit.
-pub fn glyph(d: u64) -> u8
-    requires { ⌜ d < 16 ⌝ }
-    ensures { λ r. ⌜ r ≡ numerals.glyph d ⌝ }
-{
-    if d < 10 { 48 + d as u8 } else { 87 + d as u8 }
 }

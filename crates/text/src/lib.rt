@@ -1,13 +1,11 @@
-// Integers as text: decimal or, after 0x, hexadecimal digits, with or without a sign.
+// Texts read as integers: decimal or, after 0x, hexadecimal digits, with or without a sign.
 mod digit;
 mod form;
 mod long;
-mod negate;
-mod spell;
+pub mod negate;
 mod word;
 
 pub use long::read_limbs;
-pub use spell::spell_limbs;
 pub use word::read_word;
 
 // What a text is as one signed 64-bit word.

@@ -10,8 +10,8 @@ use lib.ListN.{length, take, drop, set, getD, length-append, length-set, take-ap
 use lib.Seq.{length-take-le, take-suc, set-at}
 use Rattle.bits.specs.Testbit.{bitLength}
 use Rattle.bits.proofs.LengthLaws.{bitLength-le, mag-lt}
-use Rattle.text.specs.Numerals.{glyph, digits, hexLength}
+use Rattle.spelling.specs.Spellings.{glyph, digits, hexLength}
 use Rattle.text.proofs.NumeralLaws.{pow-hex}
 
 -- ---- how many digits there are
 

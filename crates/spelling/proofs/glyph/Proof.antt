@@ -1,10 +1,10 @@
--- `text::digit::glyph` meets its contract. Assumes nothing.
+-- `spelling::glyph` meets its contract. Assumes nothing.
 use mathlib.Core.Path.{refl}
 use borrow.Author.Tests.{lt-ltb, le-ltb}
-use Rattle.text.specs.Numerals.{glyph}
+use Rattle.spelling.specs.Spellings.{glyph}
 use borrow.Author.Needs.{needs}
-use Rattle.text.proofs.digit.glyph.Statement.{statement}
-use Rattle.text.proofs.digit.glyph.Tie as tie
+use Rattle.spelling.proofs.glyph.Statement.{statement}
+use Rattle.spelling.proofs.glyph.Tie as tie
 
 returns : tie.Need-returns
 unfolding glyph

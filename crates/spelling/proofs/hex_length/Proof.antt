@@ -1,13 +1,13 @@
--- `text::spell::hex_length` meets its contract: digits that are 0 go, from the first on. Assumes nothing.
+-- `spelling::hex_length` meets its contract: digits that are 0 go, from the first on. Assumes nothing.
 use Prim.Native.Nat.{_*_, _≤_}
 use native.Mathlib.Omega.{arith}
 use mathlib.Core.Path.{sym, _∙_}
 use lib.ListN.{length}
-use Rattle.text.specs.Inner.{natural}
-use Rattle.text.proofs.SpellNatural.{natural-lt}
-use Rattle.text.proofs.SpellDigits.{Below, below-less, below-settled, below-one}
-use Rattle.text.proofs.spell.hex_length.Statement.{statement}
-use Rattle.text.proofs.spell.hex_length.Tie as tie
+use Rattle.spelling.specs.Inner.{natural}
+use Rattle.spelling.proofs.NaturalLaws.{natural-lt}
+use Rattle.spelling.proofs.DigitLaws.{Below, below-less, below-settled, below-one}
+use Rattle.spelling.proofs.hex_length.Statement.{statement}
+use Rattle.spelling.proofs.hex_length.Tie as tie
 
 abbrev Inv-loop : tie.InvT-loop
 Inv-loop x k₀ k = (k ≤ 8 * length x) × Below (natural x) k

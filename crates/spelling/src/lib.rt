@@ -1,13 +1,20 @@
-// Limbs as a text in hexadecimal.
+// Integers in limbs as text in hexadecimal.
 ghost use mathlib.Core.Path.{_≡_};
 ghost use mathlib.Core.List.{_∷_, _++_};
 ghost use Prim.Native.Nat.{_<_, _≤_, _+_, _*_, _/_, _%_, _^_};
 ghost use lib.ListN.{length, drop};
-ghost use Rattle.text.specs.Numerals.{digits, hexLength};
-ghost use Rattle.text.specs.Spellings.{Spells};
-ghost use Rattle.text.specs.Inner.{natural};
-use super::digit::glyph;
-use super::negate::negate;
+ghost use Rattle.spelling.specs.Spellings as spellings;
+ghost use Rattle.spelling.specs.Spellings.{digits, hexLength, Spells};
+ghost use Rattle.spelling.specs.Inner.{natural};
+use text::negate::negate;
+
+// The byte of a digit.
+fn glyph(d: u64) -> u8
+    requires { ⌜ d < 16 ⌝ }
+    ensures { λ r. ⌜ r ≡ spellings.glyph d ⌝ }
+{
+    if d < 10 { 48 + d as u8 } else { 87 + d as u8 }
+}
 
 // Hexadecimal digit i of the number that limbs are without a sign.
 fn nibble(x: &[u32], i: usize) -> u64

@@ -1,8 +1,8 @@
--- `text::spell::nibble` meets its contract. Assumes nothing.
-use Rattle.text.proofs.SpellNatural.{natural-digit}
+-- `spelling::nibble` meets its contract. Assumes nothing.
+use Rattle.spelling.proofs.NaturalLaws.{natural-digit}
 use borrow.Author.Needs.{needs}
-use Rattle.text.proofs.spell.nibble.Statement.{statement}
-use Rattle.text.proofs.spell.nibble.Tie as tie
+use Rattle.spelling.proofs.nibble.Statement.{statement}
+use Rattle.spelling.proofs.nibble.Tie as tie
 
 returns : tie.Need-returns
 returns c = natural-digit _ _ (λ j. c .shared-slice-known .given j .fits) (c .before .pre)

@@ -1,14 +1,14 @@
--- `text::spell::spell_limbs` meets its contract: no room, or the digits after a sign or none. Assumes nothing.
+-- `spelling::spell_limbs` meets its contract: no room, or the digits after a sign or none. Assumes nothing.
 use native.Mathlib.Omega.{arith}
 use mathlib.Core.Path.{_∙_}
 use mathlib.Core.List.{[], _∷_}
 use mathlib.Core.Logic.{⊎-elim}
 use lib.ListN.{length, length-set}
 use borrow.Author.Tests.{ltb-true}
-use Rattle.text.proofs.SpellBuffer.{part-length, spells-none, spells-nonnegative, spells-negative}
+use Rattle.spelling.proofs.BufferLaws.{part-length, spells-none, spells-nonnegative, spells-negative}
 use borrow.Author.Needs.{needs}
-use Rattle.text.proofs.spell.spell_limbs.Statement.{statement}
-use Rattle.text.proofs.spell.spell_limbs.Tie as tie
+use Rattle.spelling.proofs.spell_limbs.Statement.{statement}
+use Rattle.spelling.proofs.spell_limbs.Tie as tie
 
 returns : tie.Need-returns
 returns c =

@@ -17,11 +17,10 @@ use Rattle.outcomes.specs.Buffer.{laid, afterwards, countOf}
 use Rattle.outcomes.proofs.OutcomeLaws.{passed, failed}
 use Rattle.limbwords.specs.Value.{value, limbsOf}
 use Rattle.limbwords.proofs.LimbLaws.{sign-last}
-use Rattle.text.specs.Numerals.{digits, hexLength, spelled}
-use Rattle.text.specs.Spellings.{hasCapacity, spelling, Spells}
-use Rattle.text.specs.Inner.{natural}
-use Rattle.text.proofs.SpellNatural.{natural-nonnegative, natural-negative}
-use Rattle.text.proofs.SpellDigits.{length-digits}
+use Rattle.spelling.specs.Spellings.{digits, hexLength, spelled, hasCapacity, spelling, Spells}
+use Rattle.spelling.specs.Inner.{natural}
+use Rattle.spelling.proofs.NaturalLaws.{natural-nonnegative, natural-negative}
+use Rattle.spelling.proofs.DigitLaws.{length-digits}
 
 -- ---- bytes put in front, and the part after them lent and come back
 

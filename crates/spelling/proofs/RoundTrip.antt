@@ -19,14 +19,14 @@ use Rattle.outcomes.specs.Buffer.{afterwards, countOf}
 use Rattle.outcomes.proofs.OutcomeLaws.{passed}
 use Rattle.outcomes.proofs.BufferLaws.{laid-copy}
 use Rattle.limbwords.specs.Value.{value, limbCount}
-use Rattle.text.specs.Numerals.{digit, areDigits, numeralFrom, numeral, byteAt, isMinus, afterSign, isPrefix, isHex, base, digitsFrom, isInteger, integer, glyph, digits, hexLength, spelled}
+use Rattle.text.specs.Numerals.{digit, areDigits, numeralFrom, numeral, byteAt, isMinus, afterSign, isPrefix, isHex, base, digitsFrom, isInteger, integer}
 use Rattle.text.specs.declared.Reading.{Reading}
 use Rattle.text.specs.declared.LimbReading.{LimbReading}
 use Rattle.text.specs.Readings.{reading, enough, limbReading}
-use Rattle.text.specs.Spellings.{hasCapacity, spelling, Spells}
+use Rattle.spelling.specs.Spellings.{glyph, digits, hexLength, spelled, hasCapacity, spelling, Spells}
 use Rattle.text.proofs.NumeralLaws.{digit-decimal, digit-lower, pow-hex, areDigits-append, numeral-append}
-use Rattle.text.proofs.SpellDigits.{length-digits}
-use Rattle.text.proofs.SpellBuffer.{dash}
+use Rattle.spelling.proofs.DigitLaws.{length-digits}
+use Rattle.spelling.proofs.BufferLaws.{dash}
 
 -- ---- digits
 

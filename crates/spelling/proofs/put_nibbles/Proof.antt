@@ -1,12 +1,12 @@
--- `text::spell::put_nibbles` meets its contract, from the last digit to the first. Assumes nothing.
+-- `spelling::put_nibbles` meets its contract, from the last digit to the first. Assumes nothing.
 use Prim.Native.Nat.{_-_}
 use native.Mathlib.Omega.{arith}
 use mathlib.Core.Path.{ap, _∙_}
-use Rattle.text.specs.Numerals.{glyph}
-use Rattle.text.specs.Inner.{natural}
-use Rattle.text.proofs.SpellDigits.{Put, put-none, put-more, put-all}
-use Rattle.text.proofs.spell.put_nibbles.Statement.{statement}
-use Rattle.text.proofs.spell.put_nibbles.Tie as tie
+use Rattle.spelling.specs.Spellings.{glyph}
+use Rattle.spelling.specs.Inner.{natural}
+use Rattle.spelling.proofs.DigitLaws.{Put, put-none, put-more, put-all}
+use Rattle.spelling.proofs.put_nibbles.Statement.{statement}
+use Rattle.spelling.proofs.put_nibbles.Tie as tie
 
 abbrev Inv-loop : tie.InvT-loop
 Inv-loop x k out₀ i₀ out i = Put (natural x) k out₀ out i

@@ -1,15 +1,15 @@
--- `text::spell::put_natural` meets its contract: two bytes, and the digits in the part after them. Assumes nothing.
+-- `spelling::put_natural` meets its contract: two bytes, and the digits in the part after them. Assumes nothing.
 use Prim.Native.Nat.{ℕ, _+_}
 use native.Mathlib.Omega.{arith}
 use mathlib.Core.Path.{ap, _∙_}
 use mathlib.Core.List.{[], _∷_, _++_}
 use lib.ListN.{drop, length-set}
-use Rattle.text.specs.Numerals.{digits}
-use Rattle.text.specs.Inner.{natural}
-use Rattle.text.proofs.SpellBuffer.{part-length, part-back}
+use Rattle.spelling.specs.Spellings.{digits}
+use Rattle.spelling.specs.Inner.{natural}
+use Rattle.spelling.proofs.BufferLaws.{part-length, part-back}
 use borrow.Author.Needs.{needs}
-use Rattle.text.proofs.spell.put_natural.Statement.{statement}
-use Rattle.text.proofs.spell.put_natural.Tie as tie
+use Rattle.spelling.proofs.put_natural.Statement.{statement}
+use Rattle.spelling.proofs.put_natural.Tie as tie
 
 slice-write-out-2 : tie.Need-slice-write-out-2
 slice-write-out-2 c = simp length-set (omega arith)
