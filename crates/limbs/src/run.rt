@@ -10,7 +10,7 @@ ghost use Rattle.limbwords.specs.Results.{meaning, Proper};
 ghost use Rattle.limbs.specs.Buffer.{Writes};
 use super::Written;
 use super::answer::refuse;
-use limbwords::measure::measure;
+use limbmeasure::measure;
 use limbwords::result::Operation;
 use limbwrite::write::copy;
 use limbwrite::write::write;

@@ -16,7 +16,7 @@ use super::answer::refuse;
 use super::check::MOST_LIMBS;
 use super::run::run;
 use super::run::store;
-use limbwords::measure::measure;
+use limbmeasure::measure;
 use limbwords::result::Operation;
 
 const MOST_BITS: u64 = 32768;

@@ -4,5 +4,4 @@ pub mod WindowLaws
 pub mod SpliceLaws
 pub mod FieldLimbs
 pub mod LogicalLaws
-pub mod MeasureLaws
 pub mod SignLimbs

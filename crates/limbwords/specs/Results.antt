@@ -3,12 +3,10 @@
 --   logicOf l            ==  the Boolean operation
 --   meaning r x y z      ==  the integer that r describes
 --   Proper r             ==  the numbers of r are what the limb functions can work with
---   continued n          ==  the limb that continues the top bit of the limb n
 --   bitsFrom z at        ==  the 32 bits of z from a position on, as a limb
 --   limbAt z j           ==  limb j of z
 use Prim.Native.Nat.{ℕ, _*_, _-_, _^_, _≤_, _<_}
-use mathlib.Core.Bool.{Bool, cond, not, _&&_, _||_, xor}
-use lib.Dec.{ltb}
+use mathlib.Core.Bool.{Bool, not, _&&_, _||_, xor}
 use lib.IntN.{ℤ, pos}
 use Rattle.bits.specs.Logical.{bitwise, bitwiseIf}
 use Rattle.bits.specs.Shift.{shiftLeft, shiftRight}
@@ -45,9 +43,6 @@ Proper (Field start end) = (start ≤ end) × (end < 2 ^ 32)
 Proper (CopyField start end) = (start ≤ end) × (end < 2 ^ 32)
 Proper (Rotate start end by) = ((start ≤ end) × (end < 2 ^ 32)) × (by ≤ end - start)
 Proper (Reverse start end) = (start ≤ end) × (end < 2 ^ 32)
-
-unfoldable pub continued : ℕ → ℕ
-continued n = cond (not (ltb n 0x80000000)) 0xFFFFFFFF 0
 
 unfoldable pub bitsFrom : ℤ → ℕ → ℕ
 bitsFrom z at = modℕ (shiftRight z at) (2 ^ 32)

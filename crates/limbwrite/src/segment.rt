@@ -6,9 +6,9 @@ ghost use Rattle.limbwords.specs.Results.{bitsFrom, limbAt, meaning, Proper};
 ghost use Rattle.outcomes.specs.Puts.{Puts};
 use super::index::min;
 use super::index::saturating_sub;
+use limbwords::any::limb_of;
 use limbwords::limb::join;
 use limbwords::limb::window;
-use limbwords::measure::limb_of;
 use limbwords::result::Operation;
 
 pub fn put_zeros(from: usize, to: usize, part: &mut [u32])

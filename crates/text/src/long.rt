@@ -18,7 +18,7 @@ use super::form::is_integer;
 use super::form::take_apart;
 use super::negate::negate;
 use super::word::sum_digits;
-use limbwords::measure::shortest_length;
+use limbmeasure::shortest_length;
 
 // Up to eight hexadecimal digits as a limb.
 fn digits_limb(digits: &[u8]) -> u32

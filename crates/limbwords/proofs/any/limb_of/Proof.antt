@@ -1,4 +1,4 @@
--- `limbwords::measure::limb_of` meets its contract. Assumes nothing.
+-- `limbwords::any::limb_of` meets its contract. Assumes nothing.
 use Prim.Native.Nat.{ℕ, _^_, _<_}
 use mathlib.Core.Path.{_≡_, sym, ap, _∙_, subst}
 use lib.IntN.{ℤ}
@@ -6,8 +6,8 @@ use lib.ListN.{length}
 use Rattle.limbwords.specs.declared.result.Operation.{Operation}
 use Rattle.limbwords.specs.Results.{bitsFrom, meaning, Proper}
 use borrow.Author.Needs.{needs}
-use Rattle.limbwords.proofs.measure.limb_of.Statement.{statement}
-use Rattle.limbwords.proofs.measure.limb_of.Tie as tie
+use Rattle.limbwords.proofs.any.limb_of.Statement.{statement}
+use Rattle.limbwords.proofs.any.limb_of.Tie as tie
 
 -- what an arm of the match is given: x has a limb, and the numbers of the arm's operation and the index are in range
 given : (c : tie.Start) {p : Operation} → c .args .operation ≡ p → (0 < length (c .args .x .now)) × (Proper p × (c .args .j < 2 ^ 32))

@@ -1,12 +1,12 @@
--- `limbwords::measure::measure_common` meets its contract, turn by turn. Assumes nothing.
+-- `limbmeasure::measure_padded` meets its contract, turn by turn. Assumes nothing.
 use native.Mathlib.Omega.{arith}
 use borrow.Author.Needs.{needs}
 use Rattle.bits.specs.Logical.{bitwise}
 use Rattle.limbwords.specs.Value.{value}
 use Rattle.limbwords.specs.Results.{logicOf}
-use Rattle.limbwords.proofs.MeasureLaws.{Enough, all-enough, one-less, counted, counted-one}
-use Rattle.limbwords.proofs.measure.measure_common.Statement.{statement}
-use Rattle.limbwords.proofs.measure.measure_common.Tie as tie
+use Rattle.limbmeasure.proofs.MeasureLaws.{Enough, all-enough, one-less, counted, counted-one}
+use Rattle.limbmeasure.proofs.measure_padded.Statement.{statement}
+use Rattle.limbmeasure.proofs.measure_padded.Tie as tie
 
 abbrev Inv-loop : tie.InvT-loop
 Inv-loop by x y enough n₀ high₀ n high = Enough (bitwise (logicOf by) (value x) (value y)) enough n high
@@ -15,23 +15,23 @@ abbrev μ-loop : tie.MeasureT-loop
 μ-loop by x y enough n₀ high₀ n high = n
 
 loop-holds : tie.Need-loop-holds Inv-loop μ-loop
-loop-holds c = let p = c .before .before .before .pre .1 in all-enough (p .0) (p .1) (c .common-limb .ensures)
+loop-holds c = let p = c .before .before .before .pre .1 .1 in all-enough (p .0) (p .1) (c .logical-limb .ensures)
 
 returns : tie.Need-returns Inv-loop μ-loop
 returns c =
     let t = c .before .before .before in
-    counted (t .before .loop .inv) (t .loop-test .taken) (c .before .before .common-limb2 .ensures) (c .before .is-padding .ensures) (c .if1 .taken)
+    counted (t .before .loop .inv) (t .loop-test .taken) (c .before .before .logical-limb2 .ensures) (c .before .is-padding .ensures) (c .if1 .taken)
 
 loop-again : tie.Need-loop-again Inv-loop μ-loop
 loop-again c =
     let t = c .before .before .before in
-    one-less (t .before .loop .inv) (t .loop-test .taken) (c .before .before .common-limb2 .ensures) (c .before .is-padding .ensures) (c .if1 .left)
+    one-less (t .before .loop .inv) (t .loop-test .taken) (c .before .before .logical-limb2 .ensures) (c .before .is-padding .ensures) (c .if1 .left)
 
 returns-2 : tie.Need-returns-2 Inv-loop μ-loop
 returns-2 c = counted-one (c .before .loop .inv) (omega arith)
 
-pub measure-common-spec : {M : Type 1} → statement M
-measure-common-spec =
+pub measure-padded-spec : {M : Type 1} → statement M
+measure-padded-spec =
     tie.close
     (tie.spec
     Inv-loop

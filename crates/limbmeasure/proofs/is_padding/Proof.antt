@@ -1,12 +1,12 @@
--- `limbwords::measure::is_padding` meets its contract. Assumes nothing.
+-- `limbmeasure::is_padding` meets its contract. Assumes nothing.
 use Prim.Native.Nat.{ℕ}
 use mathlib.Core.Path.{_≡_, sym, ap}
 use mathlib.Core.Bool.{Bool, cond, not}
 use lib.Dec.{eqb, ltb}
 use borrow.Author.Tests.{lt-ltb, le-ltb}
-use Rattle.limbwords.specs.Results.{continued}
-use Rattle.limbwords.proofs.measure.is_padding.Statement.{statement}
-use Rattle.limbwords.proofs.measure.is_padding.Tie as tie
+use Rattle.limbmeasure.specs.Padding.{continued}
+use Rattle.limbmeasure.proofs.is_padding.Statement.{statement}
+use Rattle.limbmeasure.proofs.is_padding.Tie as tie
 
 by-top : (low high : ℕ) (b : Bool) → ltb low 0x80000000 ≡ b → eqb high (cond (not b) 0xFFFFFFFF 0) ≡ eqb high (continued low)
 unfolding continued

@@ -1,17 +1,17 @@
--- `limbwords::measure::shortest_length` meets its contract, turn by turn. Assumes nothing.
+-- `limbmeasure::shortest_length` meets its contract, turn by turn. Assumes nothing.
 use Prim.Native.Nat.{_-_}
 use native.Mathlib.Omega.{arith}
 use mathlib.Core.Path.{_≡_, ap}
 use mathlib.Core.Bool.{not}
 use lib.ListN.{length, getD}
 use borrow.Author.Needs.{needs}
 use Rattle.limbwords.specs.Value.{value}
 use Rattle.limbwords.specs.Results.{limbAt}
 use Rattle.limbwords.proofs.ValueLaws.{value-length}
 use Rattle.limbwords.proofs.LimbLaws.{limb-value}
-use Rattle.limbwords.proofs.MeasureLaws.{Enough, all-enough, one-less, counted, counted-one}
-use Rattle.limbwords.proofs.measure.shortest_length.Statement.{statement}
-use Rattle.limbwords.proofs.measure.shortest_length.Tie as tie
+use Rattle.limbmeasure.proofs.MeasureLaws.{Enough, all-enough, one-less, counted, counted-one}
+use Rattle.limbmeasure.proofs.shortest_length.Statement.{statement}
+use Rattle.limbmeasure.proofs.shortest_length.Tie as tie
 
 abbrev Inv-loop : tie.InvT-loop
 Inv-loop x n₀ n = Enough (value x) (length x) n (getD x (n - 1) 0)

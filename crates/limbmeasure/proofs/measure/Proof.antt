@@ -1,16 +1,16 @@
--- `limbwords::measure::measure` meets its contract. Assumes nothing.
+-- `limbmeasure::measure` meets its contract. Assumes nothing.
 use native.Mathlib.Omega.{arith}
 use Prim.Native.Nat.{_*_, _<_}
 use mathlib.Core.Path.{_≡_, sym, subst}
 use lib.IntN.{ℤ}
 use Rattle.bits.specs.Testbit.{bitLength}
 use Rattle.limbwords.specs.declared.result.Operation.{Operation}
 use Rattle.limbwords.specs.Value.{limbCount}
 use Rattle.limbwords.specs.Results.{meaning}
-use Rattle.limbwords.proofs.MeasureLaws.{one-limb}
+use Rattle.limbmeasure.proofs.MeasureLaws.{one-limb}
 use borrow.Author.Needs.{needs}
-use Rattle.limbwords.proofs.measure.measure.Statement.{statement}
-use Rattle.limbwords.proofs.measure.measure.Tie as tie
+use Rattle.limbmeasure.proofs.measure.Statement.{statement}
+use Rattle.limbmeasure.proofs.measure.Tie as tie
 
 returns : tie.Need-returns
 returns c = let h = c .before .before .before .before .pre .1 .1 .1 .1 in one-limb _ (omega arith)

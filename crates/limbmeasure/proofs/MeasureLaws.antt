@@ -10,9 +10,10 @@ use Rattle.bits.specs.Testbit.{isNegative, testbit, bitLength}
 use Rattle.bits.proofs.TestbitLaws.{by-lt, testbit-above, testbit-zero}
 use Rattle.bits.proofs.ValueLaws.{testbit-mask}
 use Rattle.bits.proofs.LengthLaws.{bitLength-least-bits}
 use Rattle.limbwords.specs.Value.{limbCount}
-use Rattle.limbwords.specs.Results.{bitsFrom, limbAt, continued}
+use Rattle.limbwords.specs.Results.{bitsFrom, limbAt}
+use Rattle.limbmeasure.specs.Padding.{continued}
 use Rattle.limbwords.proofs.LimbLaws.{bitsFrom-lt, testbit-bitsFrom, bitsFrom-above, length-below, top-bit}
 
 -- the top bit of a continuing limb is that of the limb below it
 top-continued : (s : Bool) → testbit (pos (cond s 0xFFFFFFFF 0)) 31 ≡ s

@@ -1,11 +1,11 @@
--- `limbwords::measure::measure_any` meets its contract, turn by turn. Assumes nothing.
+-- `limbmeasure::measure_any` meets its contract, turn by turn. Assumes nothing.
 use native.Mathlib.Omega.{arith}
 use borrow.Author.Needs.{needs}
 use Rattle.limbwords.specs.Value.{value}
 use Rattle.limbwords.specs.Results.{meaning}
-use Rattle.limbwords.proofs.MeasureLaws.{Enough, all-enough, one-less, counted, counted-one}
-use Rattle.limbwords.proofs.measure.measure_any.Statement.{statement}
-use Rattle.limbwords.proofs.measure.measure_any.Tie as tie
+use Rattle.limbmeasure.proofs.MeasureLaws.{Enough, all-enough, one-less, counted, counted-one}
+use Rattle.limbmeasure.proofs.measure_any.Statement.{statement}
+use Rattle.limbmeasure.proofs.measure_any.Tie as tie
 
 abbrev Inv-loop : tie.InvT-loop
 Inv-loop operation x y z enough n₀ high₀ n high = Enough (meaning operation (value x) (value y) (value z)) enough n high
