@@ -10,9 +10,9 @@ use Rattle.words.proofs.WordLaws.{back, position-tested, natural-pos}
 use Rattle.outcomes.specs.Outcome.{done}
 use Rattle.limbwords.specs.Value.{value}
 use Rattle.limbs.specs.Operations.{shiftOutcome}
-use Rattle.limbs.proofs.StageLaws.{legal, illegal, operand-passed, operand-failed}
-use Rattle.limbs.proofs.ShiftLaws.{shift-left, shift-right}
-use Rattle.limbs.proofs.WritesLaws.{writes-as, writes-refused}
+use Rattle.limbstages.proofs.StageLaws.{legal, illegal, operand-passed, operand-failed}
+use Rattle.limbs.proofs.SignedLaws.{shift-left, shift-right}
+use Rattle.limbstages.proofs.WritesLaws.{writes-as, writes-refused}
 use borrow.Author.Needs.{needs}
 use Rattle.limbs.proofs.bitwise_shift.Statement.{statement}
 use Rattle.limbs.proofs.bitwise_shift.Tie as tie
