@@ -32,17 +32,16 @@ use limbstages::field::reduced;
 use limbstages::field::run_field;
 use limbstages::run::run;
 use limbstages::run::store_limbs;
-use limbstages::shift::negated;
 use limbstages::shift::shift_left;
 use limbstages::shift::shift_right;
 use limbwords::limb::window;
 use limbwords::measure::shortest_length;
 use limbwords::result::Logic;
 use limbwords::result::Operation;
-use limbwords::signed::natural;
 use limbwords::signed::word;
 use limbwords::signed::word_bits;
 use limbwrite::index::max;
+use words::sign::absolute;
 
 // and, ior and xor of two operands, and not of the first.
 fn combine(by: Logic, x: &[u32], y: &[u32], out: &mut [u32], first: u64) -> Written
@@ -157,10 +156,11 @@ pub fn bitwise_shift(x: &[u32], distance: i64, out: &mut [u32], first: u64) -> W
     if !is_operand(x) {
         return refuse(7);
     }
+    let by = absolute(distance);
     if distance < 0 {
-        shift_right(x, negated(distance), out, first)
+        shift_right(x, by, out, first)
     } else {
-        shift_left(x, natural(distance), out, first)
+        shift_left(x, by, out, first)
     }
 }
 

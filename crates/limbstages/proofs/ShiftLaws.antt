@@ -1,13 +1,12 @@
 -- The shifts of an operand: a distance of 32,768 is as good as any beyond it, and how many limbs are enough. Assumes nothing.
-use Prim.Native.Nat.{ℕ, zero, suc, zero-le, _+_, _*_, _-_, _/_, _≤_, _<_}
+use Prim.Native.Nat.{ℕ, zero, suc, _+_, _*_, _/_, _≤_, _<_}
 use native.Mathlib.Omega.{arith}
-use mathlib.Core.Path.{_≡_, refl, sym, ap, ap₂, _∙_, subst}
-use mathlib.Core.Bool.{Bool, true, false, cond, true≢false}
+use mathlib.Core.Path.{_≡_, refl, sym, ap, _∙_, subst}
+use mathlib.Core.Bool.{true, cond}
 use mathlib.Core.List.{List}
 use lib.Dec.{ltb}
-use lib.IntN.{ℤ, pos, negsuc, _-ℤ_, pos-ne-negsuc}
+use lib.IntN.{ℤ, pos, negsuc, pos-ne-negsuc}
 use lib.ListN.{length}
-use lib.Signed.{mag, leZ}
 use borrow.Author.Tests.{le-leb, lt-leb}
 use Rattle.bits.specs.Testbit.{bitLength}
 use Rattle.bits.specs.Shift.{shiftLeft, shiftRight}
@@ -87,11 +86,3 @@ module _ (xs : List ℕ) (legal : isOperand xs ≡ true) where
 
     pub left-refused : {n : ℕ} → n ≡ limbCount (shiftLeft (value xs) r) → 1024 < n → sized (shiftLeft (value xs) by) ≡ refuse 6
     left-refused q h = capped-left ∙ sized-refused (shiftLeft (value xs) r) (omega arith)
-
--- ---- a negative distance, turned round
-
-pub minus-one-minus : (d : ℤ) → leZ (pos 0) d ≡ false → negsuc 0 -ℤ d ≡ pos (mag d)
-minus-one-minus (pos n) h = absurd (true≢false (sym (le-leb 0 n zero-le) ∙ h))
-minus-one-minus (negsuc n) h =
-    let e : suc n - 1 ≡ n = omega arith in
-    ap₂ (λ (t : Bool) (m : ℕ). cond t (negsuc (1 - suc (suc n))) (pos m)) (lt-leb (suc (suc n)) 1 (omega arith)) e

@@ -1,10 +1,8 @@
 // The shifts of an operand, by an unsigned distance.
 ghost use mathlib.Core.Path.{_≡_};
-ghost use mathlib.Core.Bool.{true, false, cond};
+ghost use mathlib.Core.Bool.{true, cond};
 ghost use Prim.Native.Nat.{_+_, _/_, _≤_, _<_};
 ghost use lib.Dec.{ltb};
-ghost use lib.IntN.{pos, natAbs};
-ghost use lib.Signed.{leZ};
 ghost use lib.ListN.{length};
 ghost use Rattle.bits.specs.Shift as shifts;
 ghost use Rattle.outcomes.specs.Outcome as outcome;
@@ -26,14 +24,6 @@ fn capped(by: u64) -> u64
     ensures { λ r. ⌜ r ≡ cond (ltb by 32768) by 32768 ⌝ }
 {
     if by < MOST_BITS { by } else { MOST_BITS }
-}
-
-// A negative distance, as one to the right. There is one for -2^63 too, which cannot be negated as it is.
-pub fn negated(distance: i64) -> u64
-    requires { ⌜ leZ (pos 0) distance ≡ false ⌝ }
-    ensures { λ r. ⌜ r ≡ natAbs distance ⌝ }
-{
-    (-1 - distance) as u64 + 1
 }
 
 // How many limbs are enough for an operand that is shifted right.
