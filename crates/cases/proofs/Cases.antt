@@ -16,8 +16,9 @@ use Rattle.fxtable.specs.Calls as calls
 use Rattle.limbwords.specs.Value.{onTop, value, limbsOf, limbCount, shortest}
 use Rattle.outcomes.specs.Outcome.{guard, guardAt, mapDone, refusalOf}
 use Rattle.outcomes.specs.Buffer.{capacity, laid, fitted, afterwards, countOf}
-use Rattle.limbs.specs.Buffer.{stored, written, number}
-use Rattle.limbs.specs.Operations.{mostLimbs, isOperand, operand, natural, isField, field, sized, notOutcome, bitwiseOutcome, shiftOutcome, rotateOutcome, reverseOutcome, bitCountOutcome, lengthOutcome, firstBitSetOutcome}
+use Rattle.limbstages.specs.Buffer.{stored, written, number}
+use Rattle.limbstages.specs.Stages.{mostLimbs, isOperand, operand, natural, isField, field, sized}
+use Rattle.limbs.specs.Operations.{notOutcome, bitwiseOutcome, shiftOutcome, rotateOutcome, reverseOutcome, bitCountOutcome, lengthOutcome, firstBitSetOutcome}
 use Rattle.cases.specs.Table.{given, stated, table}
 
 pub cases-M : map given table ≡ map stated table

@@ -10,8 +10,8 @@ use Rattle.fxtable.specs.Domains.{leastWidth, largestWidth, isWidth}
 use Rattle.limbwords.specs.Value.{onTop, value, limbsOf, limbCount, shortest}
 use Rattle.outcomes.specs.Outcome.{Outcome, guard, guardAt, mapDone, refusalOf}
 use Rattle.outcomes.specs.Buffer.{capacity, laid, fitted, afterwards, countOf}
-use Rattle.limbs.specs.Buffer.{stored, written, number}
-use Rattle.limbs.specs.Operations.{mostLimbs, isOperand, operand}
+use Rattle.limbstages.specs.Buffer.{stored, written, number}
+use Rattle.limbstages.specs.Stages.{mostLimbs, isOperand, operand}
 use Rattle.convert.specs.Convert.{toFixnumOutcome, toLimbsOutcome, copied}
 
 -- the buffer after a call

@@ -14,11 +14,12 @@ use Rattle.words.proofs.WordLaws.{back-word, fits-mag}
 use Rattle.fxtable.specs.Domains.{isWidth}
 use Rattle.fxtable.proofs.CallLaws.{fits-word}
 use Rattle.limbwords.specs.Value.{value}
-use Rattle.limbs.specs.declared.Number.{Number}
+use Rattle.limbstages.specs.declared.Number.{Number}
 use Rattle.outcomes.specs.Outcome.{Outcome, refused, done, refuse, guard, guardAt}
 use Rattle.outcomes.proofs.OutcomeLaws.{passed, failed}
-use Rattle.limbs.specs.Buffer.{number}
-use Rattle.limbs.specs.Operations.{isOperand, operand, wordOutcome}
+use Rattle.limbstages.specs.Buffer.{number}
+use Rattle.limbstages.specs.Stages.{isOperand, operand}
+use Rattle.limbs.specs.Operations.{wordOutcome}
 use Rattle.convert.specs.Convert.{toFixnumOutcome}
 
 -- what the outcome for a word becomes at a width

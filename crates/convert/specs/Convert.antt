@@ -9,9 +9,9 @@ use lib.ListN.{take, drop}
 use Rattle.bits.specs.Testbit.{fits}
 use Rattle.fxtable.specs.Domains.{isWidth}
 use Rattle.limbwords.specs.Value.{value}
-use Rattle.limbs.specs.declared.Written.{Written}
+use Rattle.limbstages.specs.declared.Written.{Written}
 use Rattle.outcomes.specs.Outcome.{Outcome, done, guard}
-use Rattle.limbs.specs.Operations.{operand}
+use Rattle.limbstages.specs.Stages.{operand}
 
 unfoldable pub toFixnumOutcome : ℕ → List ℕ → Outcome ℤ
 toFixnumOutcome w x = guard (isWidth w) 1 (operand x (guard (fits w (value x)) 6 (done (value x))))

@@ -12,8 +12,9 @@ use Rattle.bits.specs.Range.{within}
 use Rattle.outcomes.specs.Outcome.{guard, guardAt, mapDone, refusalOf}
 use Rattle.outcomes.specs.Buffer.{capacity, laid, fitted, afterwards, countOf}
 use Rattle.limbwords.specs.Value.{onTop, value, limbsOf, limbCount, shortest}
-use Rattle.limbs.specs.Buffer.{stored, written}
-use Rattle.limbs.specs.Operations.{mostLimbs, isOperand, operand, natural, isField, field, rotateOutcome, reverseOutcome}
+use Rattle.limbstages.specs.Buffer.{stored, written}
+use Rattle.limbstages.specs.Stages.{mostLimbs, isOperand, operand, natural, isField, field}
+use Rattle.limbs.specs.Operations.{rotateOutcome, reverseOutcome}
 use Rattle.limb_laws.specs.Lists.{Step, callsOf, outcomeOf, answerOf, handOn, allFit, runSteps, isDone}
 
 -- Rotate by 5, rotate by -1, which is refused and needs no capacity, and reverse, in three buffers.

@@ -20,18 +20,19 @@ use Rattle.bits.proofs.Booleans.{both-left, both-right}
 use Rattle.bits.proofs.LengthLaws.{fits-length, fits-not}
 use Rattle.bits.proofs.FitsLaws.{is-true, pow-fits, bitwise-fits}
 use Rattle.bits.proofs.ListTheorem.{ListLaw, list-theorem, calls-fit}
-use Rattle.limbs.specs.declared.Written.{Written}
+use Rattle.limbstages.specs.declared.Written.{Written}
 use Rattle.limbwords.specs.Value.{value, shortest}
 use Rattle.outcomes.specs.Outcome.{Outcome, done, guard, guardAt, mapDone, refusalOf}
 use Rattle.outcomes.specs.Buffer.{capacity, fitted, afterwards, countOf}
 use Rattle.outcomes.proofs.OutcomeLaws.{passed, done-injective}
 use Rattle.outcomes.proofs.BufferLaws.{laid-copy}
-use Rattle.limbs.specs.Buffer.{stored, written}
-use Rattle.limbs.specs.Operations.{mostLimbs, isOperand, isField, field, notOutcome, bitwiseOutcome, rotateOutcome, reverseOutcome, bitCountOutcome, natural}
+use Rattle.limbstages.specs.Buffer.{stored, written}
+use Rattle.limbstages.specs.Stages.{mostLimbs, isOperand, isField, field, natural}
+use Rattle.limbs.specs.Operations.{notOutcome, bitwiseOutcome, rotateOutcome, reverseOutcome, bitCountOutcome}
 use Rattle.limb_laws.specs.Lists.{Step, callsOf, outcomeOf, answerOf, handOn, allFit, runSteps, isDone, anyDone, resultOf, turned, ample, Run, ListStatement}
 use Rattle.limbwords.proofs.ValueLaws.{value-length, value-shortest, length-shortest, limbCount-positive}
-use Rattle.limbs.proofs.StageLaws.{operand-passed, operand-lengths}
-use Rattle.limbs.proofs.WritesLaws.{shortest-operand}
+use Rattle.limbstages.proofs.StageLaws.{operand-passed, operand-lengths}
+use Rattle.limbstages.proofs.WritesLaws.{shortest-operand}
 
 -- ---- legal limbs, and integers that fit 32,768 bits, which are 1,024 limbs; `shortest-operand` is the converse
 

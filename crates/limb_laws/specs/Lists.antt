@@ -23,12 +23,13 @@ use lib.Signed.{leZ}
 use Rattle.bits.specs.Testbit.{isNegative, testbit}
 use Rattle.bits.specs.Field.{inField}
 use Rattle.bits.specs.FieldList.{FieldCall, rotate, reverse, netCount, oddReversals}
-use Rattle.limbs.specs.declared.Written.{Written}
+use Rattle.limbstages.specs.declared.Written.{Written}
 use Rattle.limbwords.specs.Value.{value, shortest}
 use Rattle.outcomes.specs.Outcome.{Outcome, refused, done}
 use Rattle.outcomes.specs.Buffer.{capacity, afterwards}
-use Rattle.limbs.specs.Buffer.{stored, written}
-use Rattle.limbs.specs.Operations.{mostLimbs, isOperand, notOutcome, bitwiseOutcome, rotateOutcome, reverseOutcome, bitCountOutcome}
+use Rattle.limbstages.specs.Buffer.{stored, written}
+use Rattle.limbstages.specs.Stages.{mostLimbs, isOperand}
+use Rattle.limbs.specs.Operations.{notOutcome, bitwiseOutcome, rotateOutcome, reverseOutcome, bitCountOutcome}
 
 pub record Step : Type 0 where
   pub call : FieldCall

@@ -20,11 +20,12 @@ use Rattle.outcomes.specs.Outcome.{Outcome, done, refuse, guard, guardAt, mapDo
 use Rattle.outcomes.specs.Buffer.{capacity, laid, fitted, afterwards, countOf}
 use Rattle.outcomes.proofs.OutcomeLaws.{passed}
 use Rattle.limbwords.proofs.ValueLaws.{pos-injective}
-use Rattle.limbs.proofs.ShiftLaws.{sized-done, sized-refused}
+use Rattle.limbstages.proofs.ShiftLaws.{sized-done, sized-refused}
 use Rattle.limbwords.specs.Value.{onTop, value, limbsOf, limbCount, shortest}
-use Rattle.limbs.specs.declared.Written.{Written}
-use Rattle.limbs.specs.Buffer.{stored, written, number}
-use Rattle.limbs.specs.Operations.{mostLimbs, isOperand, operand, natural, isField, field, isNewBit, newBit, sized, notOutcome, bitwiseOutcome, ifOutcome, copyBitOutcome, bitFieldOutcome, copyBitFieldOutcome, shiftOutcome, shiftLeftOutcome, shiftRightOutcome, rotateOutcome, reverseOutcome, bitCountOutcome, lengthOutcome, firstBitSetOutcome, bitSetOutcome, wordOutcome}
+use Rattle.limbstages.specs.declared.Written.{Written}
+use Rattle.limbstages.specs.Buffer.{stored, written, number}
+use Rattle.limbstages.specs.Stages.{mostLimbs, isOperand, operand, natural, isField, field, isNewBit, newBit, sized}
+use Rattle.limbs.specs.Operations.{notOutcome, bitwiseOutcome, ifOutcome, copyBitOutcome, bitFieldOutcome, copyBitFieldOutcome, shiftOutcome, shiftLeftOutcome, shiftRightOutcome, rotateOutcome, reverseOutcome, bitCountOutcome, lengthOutcome, firstBitSetOutcome, bitSetOutcome, wordOutcome}
 
 abbrev zeros : ℕ → List ℕ
 zeros n = replicate n 0

@@ -1,6 +1,5 @@
-pub mod StageLaws
-pub mod WritesLaws
+pub mod CheckLaws
 pub mod NumberLaws
 pub mod LengthLaws
-pub mod ShiftLaws
+pub mod SignedLaws
 pub mod Cases

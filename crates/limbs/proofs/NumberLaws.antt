@@ -14,10 +14,10 @@ use Rattle.words.proofs.Digitwise.{digit-testbit}
 use Rattle.outcomes.specs.Outcome.{Outcome, done, refuse}
 use Rattle.limbwords.specs.Results.{bitsFrom}
 use Rattle.limbwords.proofs.LimbLaws.{testbit-bitsFrom}
-use Rattle.limbs.specs.declared.Number.{Number}
-use Rattle.limbs.specs.Buffer.{number}
-use Rattle.limbs.specs.Operations.{isOperand, operand}
-use Rattle.limbs.proofs.StageLaws.{illegal, operand-passed, operand-failed}
+use Rattle.limbstages.specs.declared.Number.{Number}
+use Rattle.limbstages.specs.Buffer.{number}
+use Rattle.limbstages.specs.Stages.{isOperand, operand}
+use Rattle.limbstages.proofs.StageLaws.{illegal, operand-passed, operand-failed}
 
 -- an answer of the outcome's
 pub number-as : {o p : Outcome ℤ} {r : Number} → o ≡ p → r ≡ number p → r ≡ number o

@@ -7,61 +7,41 @@
 ghost use mathlib.Core.Path.{_≡_};
 ghost use mathlib.Core.Bool.{_&&_, _||_, xor};
 ghost use Rattle.outcomes.specs.Outcome as outcome;
-ghost use Rattle.limbs.specs.Buffer.{Writes, number};
+ghost use Rattle.limbstages.specs.Buffer.{Writes, number};
 ghost use Rattle.limbwords.specs.Results.{logicOf};
 ghost use Rattle.limbs.specs.Operations.{notOutcome, bitwiseOutcome, ifOutcome, copyBitOutcome, bitFieldOutcome, copyBitFieldOutcome, shiftOutcome, shiftLeftOutcome, shiftRightOutcome, rotateOutcome, reverseOutcome, bitCountOutcome, lengthOutcome, firstBitSetOutcome, bitSetOutcome, wordOutcome};
-
-pub mod answer;
-mod check;
-mod field;
-mod run;
-mod shift;
-
-use answer::done;
-use answer::refuse;
-use answer::refuse_number;
-use check::Field;
-use check::Natural;
-use check::NewBit;
-use check::Rotation;
-use check::are_operands;
-use check::check_field;
-use check::check_natural;
-use check::check_new_bit;
-use check::check_rotation;
-use check::is_operand;
-use field::reduced;
-use field::run_field;
 use limbcount::count::bit_count;
 use limbcount::count::bit_length;
 use limbcount::count::first_bit_set;
 use limbmeasure::shortest_length;
+use limbstages::Number;
+use limbstages::Written;
+use limbstages::answer::done;
+use limbstages::answer::refuse;
+use limbstages::answer::refuse_number;
+use limbstages::check::Field;
+use limbstages::check::Natural;
+use limbstages::check::NewBit;
+use limbstages::check::Rotation;
+use limbstages::check::are_operands;
+use limbstages::check::check_field;
+use limbstages::check::check_natural;
+use limbstages::check::check_new_bit;
+use limbstages::check::check_rotation;
+use limbstages::check::is_operand;
+use limbstages::field::reduced;
+use limbstages::field::run_field;
+use limbstages::run::run;
+use limbstages::run::store_limbs;
+use limbstages::shift::shift_left;
+use limbstages::shift::shift_right;
 use limbwords::limb::window;
 use limbwords::result::Logic;
 use limbwords::result::Operation;
-use limbwords::signed::natural;
 use limbwords::signed::word;
 use limbwords::signed::word_bits;
 use limbwrite::index::max;
-use run::run;
-use run::store_limbs;
-use shift::negated;
-use shift::shift_left;
-use shift::shift_right;
-
-// What a call answers that writes an integer: a refusal number, 0 for done, and how many limbs it has written.
-#[repr(C)]
-pub struct Written {
-    pub refusal: u64,
-    pub length: u64,
-}
-
-// What a call answers that writes nothing: a refusal number, 0 for done, and a number, 0 where the call is refused.
-#[repr(C)]
-pub struct Number {
-    pub refusal: u64,
-    pub value: i64,
-}
+use words::sign::absolute;
 
 // and, ior and xor of two operands, and not of the first.
 fn combine(by: Logic, x: &[u32], y: &[u32], out: &mut [u32], first: u64) -> Written
@@ -176,10 +156,11 @@ pub fn bitwise_shift(x: &[u32], distance: i64, out: &mut [u32], first: u64) -> W
     if !is_operand(x) {
         return refuse(7);
     }
+    let by = absolute(distance);
     if distance < 0 {
-        shift_right(x, negated(distance), out, first)
+        shift_right(x, by, out, first)
     } else {
-        shift_left(x, natural(distance), out, first)
+        shift_left(x, by, out, first)
     }
 }
 

@@ -1,9 +1,6 @@
-// Signed 64-bit numbers: as a position, from limbs and as limbs.
+// Signed 64-bit numbers, from limbs and as limbs.
 ghost use mathlib.Core.Path.{_≡_};
-ghost use mathlib.Core.Bool.{true};
 ghost use Prim.Native.Nat.{_^_, _<_};
-ghost use lib.IntN.{pos, natAbs};
-ghost use lib.Signed.{leZ};
 ghost use lib.ListN.{length};
 ghost use Rattle.bits.specs.Testbit.{bitLength};
 ghost use Rattle.limbwords.specs.Value.{value};
@@ -12,14 +9,6 @@ use super::limb::limb;
 use super::limb::padding;
 use words::field::bits_from;
 use words::sign::from_magnitude;
-
-// A number that is not negative, as a position.
-pub fn natural(n: i64) -> u64
-    requires { ⌜ leZ (pos 0) n ≡ true ⌝ }
-    ensures { λ r. ⌜ r ≡ natAbs n ⌝ }
-{
-    n as u64
-}
 
 // The value of limbs that one word can hold.
 pub fn word(x: &[u32]) -> i64

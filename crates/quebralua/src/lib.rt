@@ -5,11 +5,11 @@ ghost use mathlib.Core.Bool.{_&&_, _||_, xor};
 ghost use mathlib.Core.List.{[], _∷_};
 ghost use Rattle.convert.specs.Convert.{toFixnumOutcome, toLimbsOutcome};
 ghost use Rattle.fxtable.specs.Calls.{fixnumAnswer};
-ghost use Rattle.limbs.specs.Buffer.{Writes, number};
+ghost use Rattle.limbstages.specs.Buffer.{Writes, number};
 ghost use Rattle.limbs.specs.Operations.{notOutcome, bitwiseOutcome, ifOutcome, copyBitOutcome, bitFieldOutcome, copyBitFieldOutcome, shiftOutcome, shiftLeftOutcome, shiftRightOutcome, rotateOutcome, reverseOutcome, bitCountOutcome, lengthOutcome, firstBitSetOutcome, bitSetOutcome};
 use fxtable::answer::Answer;
-use limbs::Number;
-use limbs::Written;
+use limbstages::Number;
+use limbstages::Written;
 
 // The operation with a code, at a width, on the first `count` of a, b, c, d
 #[no_mangle]

@@ -4,7 +4,7 @@ use Prim.Native.Nat.{_≤_}
 use mathlib.Core.Path.{sym}
 use lib.ListN.{length}
 use lib.Seq.{length-take-le}
-use Rattle.limbs.proofs.WritesLaws.{written-within}
+use Rattle.limbstages.proofs.WritesLaws.{written-within}
 use Rattle.cases.proofs.shift_limbs.Statement.{statement}
 use Rattle.cases.proofs.shift_limbs.Tie as tie
 

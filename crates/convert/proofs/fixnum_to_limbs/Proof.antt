@@ -10,7 +10,7 @@ use Rattle.fxtable.specs.Domains.{isWidth}
 use Rattle.fxtable.proofs.CallLaws.{width-bounds}
 use Rattle.outcomes.specs.Outcome.{done}
 use Rattle.outcomes.proofs.OutcomeLaws.{passed, failed-by, passed-by}
-use Rattle.limbs.proofs.WritesLaws.{writes-refused, writes-as}
+use Rattle.limbstages.proofs.WritesLaws.{writes-refused, writes-as}
 use Rattle.convert.specs.Convert.{toLimbsOutcome}
 use Rattle.convert.proofs.fixnum_to_limbs.Statement.{statement}
 use Rattle.convert.proofs.fixnum_to_limbs.Tie as tie

@@ -4,7 +4,7 @@ use mir.Syntax.{w64}
 use mir.ValLaws.{toZ-ofZ}
 use borrow.Author.Needs.{needs}
 use Rattle.limbs.specs.Operations.{bitCountOutcome}
-use Rattle.limbs.proofs.StageLaws.{legal, operand-lengths}
+use Rattle.limbstages.proofs.StageLaws.{legal, operand-lengths}
 use Rattle.limbs.proofs.NumberLaws.{refused-operand, answered}
 use Rattle.limbs.proofs.bitwise_bit_count.Statement.{statement}
 use Rattle.limbs.proofs.bitwise_bit_count.Tie as tie

@@ -8,8 +8,9 @@ use Rattle.outcomes.specs.Outcome.{done}
 use Rattle.limbwords.specs.Value.{value}
 use Rattle.limbwords.specs.Results.{meaning, Proper}
 use Rattle.limbs.specs.Operations.{bitFieldOutcome}
-use Rattle.limbs.proofs.StageLaws.{operand-twice, operand-lengths, LegalField, field-refused, field-legal}
-use Rattle.limbs.proofs.WritesLaws.{writes-as, writes-refused}
+use Rattle.limbstages.proofs.StageLaws.{operand-twice, operand-lengths}
+use Rattle.limbs.proofs.CheckLaws.{LegalField, field-refused, field-legal}
+use Rattle.limbstages.proofs.WritesLaws.{writes-as, writes-refused}
 use borrow.Author.Needs.{needs}
 use Rattle.limbs.proofs.bitwise_bit_field.Statement.{statement}
 use Rattle.limbs.proofs.bitwise_bit_field.Tie as tie

@@ -9,9 +9,10 @@ use mir.ValLaws.{toZ-pos}
 use Rattle.bits.specs.Testbit.{testbit}
 use Rattle.outcomes.specs.Outcome.{done}
 use Rattle.limbwords.specs.Value.{value}
-use Rattle.limbs.specs.Buffer.{number}
+use Rattle.limbstages.specs.Buffer.{number}
 use Rattle.limbs.specs.Operations.{bitSetOutcome}
-use Rattle.limbs.proofs.StageLaws.{operand-length, natural-refused, natural-legal}
+use Rattle.limbstages.proofs.StageLaws.{operand-length}
+use Rattle.limbs.proofs.CheckLaws.{natural-refused, natural-legal}
 use Rattle.limbs.proofs.NumberLaws.{number-as, bit-from}
 use borrow.Author.Needs.{needs}
 use Rattle.limbs.proofs.bitwise_bit_set.Statement.{statement}

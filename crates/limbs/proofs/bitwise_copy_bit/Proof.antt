@@ -10,9 +10,10 @@ use Rattle.outcomes.specs.Outcome.{done}
 use Rattle.limbwords.specs.Value.{value}
 use Rattle.limbwords.specs.Results.{meaning, Proper}
 use Rattle.limbwords.proofs.ValueLaws.{value-small}
-use Rattle.limbs.specs.Operations.{mostLimbs, isOperand, copyBitOutcome}
-use Rattle.limbs.proofs.StageLaws.{LegalBit, new-bit-refused, new-bit-legal}
-use Rattle.limbs.proofs.WritesLaws.{writes-as, writes-refused}
+use Rattle.limbstages.specs.Stages.{mostLimbs, isOperand}
+use Rattle.limbs.specs.Operations.{copyBitOutcome}
+use Rattle.limbs.proofs.CheckLaws.{LegalBit, new-bit-refused, new-bit-legal}
+use Rattle.limbstages.proofs.WritesLaws.{writes-as, writes-refused}
 use borrow.Author.Needs.{needs}
 use Rattle.limbs.proofs.bitwise_copy_bit.Statement.{statement}
 use Rattle.limbs.proofs.bitwise_copy_bit.Tie as tie

@@ -8,8 +8,8 @@ use Rattle.outcomes.specs.Outcome.{done}
 use Rattle.limbwords.specs.Value.{value}
 use Rattle.limbwords.specs.Results.{meaning, Proper}
 use Rattle.limbs.specs.Operations.{copyBitFieldOutcome}
-use Rattle.limbs.proofs.StageLaws.{field-refused, field-legal}
-use Rattle.limbs.proofs.WritesLaws.{writes-as, writes-refused}
+use Rattle.limbs.proofs.CheckLaws.{field-refused, field-legal}
+use Rattle.limbstages.proofs.WritesLaws.{writes-as, writes-refused}
 use borrow.Author.Needs.{needs}
 use Rattle.limbs.proofs.bitwise_copy_bit_field.Statement.{statement}
 use Rattle.limbs.proofs.bitwise_copy_bit_field.Tie as tie

@@ -4,7 +4,7 @@ use mir.Syntax.{w64}
 use mir.ValLaws.{toZ-ofZ}
 use borrow.Author.Needs.{needs}
 use Rattle.limbs.specs.Operations.{firstBitSetOutcome}
-use Rattle.limbs.proofs.StageLaws.{legal, operand-lengths}
+use Rattle.limbstages.proofs.StageLaws.{legal, operand-lengths}
 use Rattle.limbs.proofs.NumberLaws.{refused-operand, answered}
 use Rattle.limbs.proofs.bitwise_first_bit_set.Statement.{statement}
 use Rattle.limbs.proofs.bitwise_first_bit_set.Tie as tie

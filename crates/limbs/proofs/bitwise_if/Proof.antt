@@ -4,8 +4,8 @@ use mathlib.Core.Path.{_∙_}
 use Rattle.limbwords.specs.Results.{meaning, Proper}
 use Rattle.limbs.specs.Operations.{ifOutcome}
 use Rattle.limbs.proofs.LengthLaws.{if-enough}
-use Rattle.limbs.proofs.StageLaws.{legal, illegal, operand-passed, operand-failed, operands-passed, operands-failed, operand-lengths, operands-lengths}
-use Rattle.limbs.proofs.WritesLaws.{writes-as, writes-refused}
+use Rattle.limbstages.proofs.StageLaws.{legal, illegal, operand-passed, operand-failed, operands-passed, operands-failed, operand-lengths, operands-lengths}
+use Rattle.limbstages.proofs.WritesLaws.{writes-as, writes-refused}
 use borrow.Author.Needs.{needs}
 use Rattle.limbs.proofs.bitwise_if.Statement.{statement}
 use Rattle.limbs.proofs.bitwise_if.Tie as tie

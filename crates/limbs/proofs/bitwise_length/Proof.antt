@@ -7,7 +7,7 @@ use mir.ValLaws.{toZ-pos}
 use borrow.Author.Needs.{needs}
 use Rattle.limbs.specs.Operations.{lengthOutcome}
 use Rattle.limbwords.proofs.ValueLaws.{value-length}
-use Rattle.limbs.proofs.StageLaws.{legal, operand-lengths}
+use Rattle.limbstages.proofs.StageLaws.{legal, operand-lengths}
 use Rattle.limbs.proofs.NumberLaws.{refused-operand, answered}
 use Rattle.limbs.proofs.bitwise_length.Statement.{statement}
 use Rattle.limbs.proofs.bitwise_length.Tie as tie

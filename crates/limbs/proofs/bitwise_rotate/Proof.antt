@@ -10,8 +10,8 @@ use Rattle.outcomes.specs.Outcome.{done}
 use Rattle.limbwords.specs.Value.{value}
 use Rattle.limbwords.specs.Results.{meaning, Proper}
 use Rattle.limbs.specs.Operations.{rotateOutcome}
-use Rattle.limbs.proofs.StageLaws.{LegalField, rotation-refused, rotation-legal}
-use Rattle.limbs.proofs.WritesLaws.{writes-as, writes-refused}
+use Rattle.limbs.proofs.CheckLaws.{LegalField, rotation-refused, rotation-legal}
+use Rattle.limbstages.proofs.WritesLaws.{writes-as, writes-refused}
 use borrow.Author.Needs.{needs}
 use Rattle.limbs.proofs.bitwise_rotate.Statement.{statement}
 use Rattle.limbs.proofs.bitwise_rotate.Tie as tie

@@ -3,9 +3,10 @@ use mathlib.Core.Path.{ap, _∙_}
 use lib.IntN.{ℤ, natAbs}
 use Rattle.bits.specs.Shift.{shiftLeft}
 use Rattle.limbwords.specs.Value.{value}
-use Rattle.limbs.specs.Operations.{sized, shiftLeftOutcome}
-use Rattle.limbs.proofs.StageLaws.{natural-refused, natural-legal}
-use Rattle.limbs.proofs.WritesLaws.{writes-as, writes-refused}
+use Rattle.limbstages.specs.Stages.{sized}
+use Rattle.limbs.specs.Operations.{shiftLeftOutcome}
+use Rattle.limbs.proofs.CheckLaws.{natural-refused, natural-legal}
+use Rattle.limbstages.proofs.WritesLaws.{writes-as, writes-refused}
 use borrow.Author.Needs.{needs}
 use Rattle.limbs.proofs.bitwise_shift_left.Statement.{statement}
 use Rattle.limbs.proofs.bitwise_shift_left.Tie as tie

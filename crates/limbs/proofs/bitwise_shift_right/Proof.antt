@@ -5,8 +5,8 @@ use Rattle.bits.specs.Shift.{shiftRight}
 use Rattle.outcomes.specs.Outcome.{done}
 use Rattle.limbwords.specs.Value.{value}
 use Rattle.limbs.specs.Operations.{shiftRightOutcome}
-use Rattle.limbs.proofs.StageLaws.{natural-refused, natural-legal}
-use Rattle.limbs.proofs.WritesLaws.{writes-as, writes-refused}
+use Rattle.limbs.proofs.CheckLaws.{natural-refused, natural-legal}
+use Rattle.limbstages.proofs.WritesLaws.{writes-as, writes-refused}
 use borrow.Author.Needs.{needs}
 use Rattle.limbs.proofs.bitwise_shift_right.Statement.{statement}
 use Rattle.limbs.proofs.bitwise_shift_right.Tie as tie

@@ -3,8 +3,8 @@ use native.Mathlib.Omega.{arith}
 use Rattle.limbwords.specs.Results.{logicOf, meaning, Proper}
 use Rattle.limbs.specs.Operations.{bitwiseOutcome}
 use Rattle.limbs.proofs.LengthLaws.{bitwise-enough}
-use Rattle.limbs.proofs.StageLaws.{legal, illegal, operands-passed, operands-failed, operands-lengths}
-use Rattle.limbs.proofs.WritesLaws.{writes-as, writes-refused}
+use Rattle.limbstages.proofs.StageLaws.{legal, illegal, operands-passed, operands-failed, operands-lengths}
+use Rattle.limbstages.proofs.WritesLaws.{writes-as, writes-refused}
 use borrow.Author.Needs.{needs}
 use Rattle.limbs.proofs.combine.Statement.{statement}
 use Rattle.limbs.proofs.combine.Tie as tie

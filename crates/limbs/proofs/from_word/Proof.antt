@@ -8,8 +8,8 @@ use Rattle.outcomes.specs.Outcome.{done}
 use Rattle.limbwords.specs.Value.{value}
 use Rattle.limbwords.specs.Results.{bitsFrom}
 use Rattle.limbwords.proofs.ValueLaws.{limbCount-le, value-length}
-use Rattle.limbs.proofs.ShiftLaws.{word-limbs}
-use Rattle.limbs.proofs.WritesLaws.{writes-as}
+use Rattle.limbs.proofs.SignedLaws.{word-limbs}
+use Rattle.limbstages.proofs.WritesLaws.{writes-as}
 use borrow.Author.Needs.{needs}
 use Rattle.limbs.proofs.from_word.Statement.{statement}
 use Rattle.limbs.proofs.from_word.Tie as tie

@@ -6,7 +6,7 @@ use mir.ValLaws.{toZ-ofZ}
 use borrow.Author.Needs.{needs}
 use Rattle.limbs.specs.Operations.{wordOutcome}
 use Rattle.outcomes.proofs.OutcomeLaws.{passed, failed}
-use Rattle.limbs.proofs.StageLaws.{legal, operand-lengths}
+use Rattle.limbstages.proofs.StageLaws.{legal, operand-lengths}
 use Rattle.limbs.proofs.NumberLaws.{refused-operand, later, answered, fits-word, exceeds-word}
 use Rattle.limbs.proofs.to_word.Statement.{statement}
 use Rattle.limbs.proofs.to_word.Tie as tie

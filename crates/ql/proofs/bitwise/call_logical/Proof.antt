@@ -1,6 +1,6 @@
 -- `bitwise::call_logical`: each logical call has written limbs within the buffer. Assumes nothing.
 use borrow.Author.Needs.{needs}
-use Rattle.limbs.proofs.WritesLaws.{written-within}
+use Rattle.limbstages.proofs.WritesLaws.{written-within}
 use Rattle.ql.proofs.bitwise.call_logical.Statement.{statement}
 use Rattle.ql.proofs.bitwise.call_logical.Tie as tie
 

@@ -1,0 +1,3 @@
+pub mod StageLaws
+pub mod WritesLaws
+pub mod ShiftLaws

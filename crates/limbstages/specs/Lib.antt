@@ -1,0 +1,3 @@
+pub mod Buffer
+pub mod Inner
+pub mod Stages
