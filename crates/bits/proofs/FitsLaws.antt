@@ -6,12 +6,12 @@ use mathlib.Core.Path.{_≡_, refl, sym, ap, _∙_, subst}
 use mathlib.Core.Bool.{Bool, true, false}
 use lib.Dec.{T, lit<}
 use lib.IntN.{ℤ, pos, negsuc, natAbs, _+ℤ_}
-use lib.Pow.{pow-pos, pow-mono, pow-lt}
+use lib.Pow.{pow-pos, pow-mono, pow-lt, shr-le}
 use lib.Signed.{mag, natAbs-le}
 use borrow.Author.Tests.{lt-ltb, ltb-true}
 use Rattle.bits.specs.Testbit.{isNegative, testbit, bitLength, fits, fill}
 use Rattle.bits.specs.Logical.{bitwiseNot, bitwise, bitwiseAnd, bitwiseIor, bitwiseIf}
-use Rattle.bits.specs.Shift.{floorDiv}
+use Rattle.bits.specs.Shift.{floorDiv, shiftRight}
 use Rattle.bits.specs.Division.{modℕ, «mod», div, div0, mod0}
 use Rattle.bits.specs.Field.{setField, bitField}
 use Rattle.bits.specs.Count.{onesBelow, ones, bitCount, firstTrue, firstBitSet}
@@ -181,3 +181,14 @@ module _ (w : ℕ) (p : 0 < w) where
 
     pub bitField-fits : fits w (bitField x start end) ≡ true
     bitField-fits = magnitude-fits w (bitField x start end) (lt-of-lt-of-le (bitField-lt x start end) (pow-mono (omega arith)))
+
+-- ---- a shift to the right
+
+mag-right : (x : ℤ) (k : ℕ) → mag (shiftRight x k) ≤ mag x
+unfolding shiftRight floorDiv
+mag-right (pos n) k = shr-le n k
+mag-right (negsuc n) k = shr-le n k
+
+pub right-fits : (w : ℕ) (x : ℤ) (k : ℕ) → fits w x ≡ true → fits w (shiftRight x k) ≡ true
+unfolding fits
+right-fits w x k h = lt-ltb (mag (shiftRight x k)) (2 ^ (w - 1)) (lt-of-le-of-lt (mag-right x k) (ltb-true (mag x) (2 ^ (w - 1)) h))

@@ -18,7 +18,7 @@ use Rattle.bits.specs.Division.{«mod», mod0}
 use Rattle.bits.specs.Shift.{shiftRight}
 use Rattle.bits.specs.Field.{bitField, setField, copyBitField, permuteField, rotateBitField, reverseBitField}
 use Rattle.bits.proofs.LengthLaws.{fits-not}
-use Rattle.bits.proofs.FitsLaws.{zero-fits, small-fits, bitLength-fits, bitCount-fits, firstBitSet-fits, mod-fits, mod0-fits, low-fits, high-fits, if-fits, setField-fits, bitField-fits}
+use Rattle.bits.proofs.FitsLaws.{zero-fits, small-fits, bitLength-fits, bitCount-fits, firstBitSet-fits, mod-fits, mod0-fits, low-fits, high-fits, if-fits, setField-fits, bitField-fits, right-fits}
 use Rattle.words.proofs.WordLaws.{fits-mag}
 use Rattle.words.proofs.SignedLaws.{natAbs-add, natAbs-sub, natAbs-mul}
 use Rattle.bits.specs.Range.{within}
@@ -28,7 +28,7 @@ use Rattle.fxtable.specs.Domains.{isWidth, arg, accepts, inDomainsFrom, inDomai
 use Rattle.fxtable.specs.Operations.{resultsOf, every, one, two, three, four, question, truth, foldFrom, larger, smaller, largest, smallest, partsOf, carry, copyBitAt}
 use Rattle.fxtable.specs.Calls.{allFixnums}
 use Rattle.bits.proofs.Booleans.{both-left, both-right}
-use Rattle.fxtable.proofs.CallLaws.{between, width-bounds, arg-fits, right-fits}
+use Rattle.fxtable.proofs.CallLaws.{between, width-bounds, arg-fits}
 use Rattle.fixnum_laws.proofs.Demand3.{all-fits}
 
 -- both results are fixnums

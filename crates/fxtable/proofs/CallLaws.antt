@@ -1,13 +1,13 @@
 -- What an accepted call says of its width, its count and its arguments; answers, from equal results. Assumes nothing.
 use Prim.Native.Nat.{ℕ, zero, suc, _-_, _≤_, _<_, _^_}
-use native.Mathlib.Nat.{le-antisymm, lt-of-lt-of-le, lt-of-le-of-lt}
+use native.Mathlib.Nat.{le-antisymm, lt-of-lt-of-le}
 use native.Mathlib.Omega.{arith}
 use mathlib.Core.Path.{_≡_, refl, sym, ap, _∙_, subst}
 use mathlib.Core.Bool.{Bool, true, false, _&&_, _||_}
 use mathlib.Core.List.{List, [], _∷_}
 use lib.Dec.{leb, eqb}
 use lib.IntN.{ℤ, pos, negsuc}
-use lib.Pow.{pow-mono, shr-le}
+use lib.Pow.{pow-mono}
 use lib.Seq.{getD-take}
 use lib.Signed.{mag}
 use mir.Syntax.{w64}
@@ -16,7 +16,6 @@ use borrow.Author.Tests.{leb-true, lt-ltb, ne-eqb}
 use Rattle.bits.proofs.Booleans.{both-left, both-right}
 use Rattle.bits.proofs.FitsLaws.{zero-fits}
 use Rattle.bits.specs.Testbit.{fits}
-use Rattle.bits.specs.Shift.{floorDiv, shiftRight}
 use Rattle.outcomes.specs.Outcome.{done, refuse}
 use Rattle.outcomes.proofs.OutcomeLaws.{passed, failed}
 use Rattle.words.proofs.WordLaws.{back-word, fits-mag}
@@ -68,16 +67,6 @@ unfolding fits
 fits-word w x a h =
     let b = width-bounds w a in
     lt-ltb (mag x) (2 ^ 63) (lt-of-lt-of-le (fits-mag w x h) (pow-mono {j = 63} (omega arith)))
-
-mag-right : (x : ℤ) (k : ℕ) → mag (shiftRight x k) ≤ mag x
-unfolding shiftRight floorDiv
-mag-right (pos n) k = shr-le n k
-mag-right (negsuc n) k = shr-le n k
-
--- a shift to the right stays a fixnum
-pub right-fits : (w : ℕ) (x : ℤ) (k : ℕ) → fits w x ≡ true → fits w (shiftRight x k) ≡ true
-unfolding fits
-right-fits w x k h = lt-ltb (mag (shiftRight x k)) (2 ^ (w - 1)) (lt-of-le-of-lt (mag-right x k) (fits-mag w x h))
 
 -- ---- answers
 

@@ -2,16 +2,16 @@
 -- casts give. Assumes nothing.
 use Prim.Native.Nat.{ℕ, zero, zero-le, suc, _+_, _-_, _<_, _^_}
 use native.Mathlib.Omega.{arith}
-use mathlib.Core.Path.{_≡_, refl, sym, ap, _∙_, subst}
+use mathlib.Core.Path.{_≡_, refl, sym, ap, ap₂, _∙_, subst}
 use mathlib.Core.Bool.{Bool, true, false, cond, not, true≢false}
 use lib.Dec.{T, leb, ltb}
 use lib.Pow.{pow-pos}
-use lib.IntN.{ℤ, pos, negsuc, negℤ, natAbs}
+use lib.IntN.{ℤ, pos, negsuc, negℤ, natAbs, _-ℤ_}
 use lib.Signed.{mag, leZ, ltZ, nonNeg}
 use mir.Syntax.{w64}
 use mir.Val.{Fits, SFits, toZ, ofZ}
 use mir.ValLaws.{toZ-ofZ, toZ-pos, toZ-neg}
-use borrow.Author.Tests.{le-ltb, lt-ltb, le-leb, ltb-true}
+use borrow.Author.Tests.{le-ltb, lt-ltb, le-leb, lt-leb, ltb-true}
 use Rattle.bits.specs.Testbit.{isNegative, fits}
 use Rattle.words.specs.Sign.{withSign, ofMagnitude}
 use Rattle.bits.specs.Logical.{bitwiseNot}
@@ -64,6 +64,14 @@ pub natural-pos : (d : ℤ) {r : ℕ} → leZ (pos 0) d ≡ true → r ≡ natAb
 natural-pos (pos n) h e = ap pos (sym e)
 natural-pos (negsuc n) h e = absurd (true≢false (sym h))
 
+-- -1 - x, as the machine has it
+pub minus-one-minus : (x : ℤ) → isNegative x ≡ true → negsuc 0 -ℤ x ≡ pos (mag x)
+unfolding isNegative
+minus-one-minus (pos n) h = let z : _≡_ {A = ℕ} 0 1 = cc in absurd (omega arith)
+minus-one-minus (negsuc n) h =
+    let e : suc n - 1 ≡ n = omega arith in
+    ap₂ (λ (t : Bool) (m : ℕ). cond t (negsuc (1 - suc (suc n))) (pos m)) (lt-leb (suc (suc n)) 1 (omega arith)) e
+
 -- what the cast of a signed word to an unsigned one asks, and what it gives
 pub cast-word : {z : ℤ} {m : ℕ} → z ≡ pos m → m < 2 ^ 63 → T (nonNeg z) × Fits w64 (natAbs z)
 cast-word {z} {m} e h = subst (λ (y : ℤ). T (nonNeg y) × Fits w64 (natAbs y)) (sym e) (tt, record { fits = omega arith })
@@ -112,12 +120,6 @@ fits-negative w (suc n) = refl
 pub fits-nonnegative : (w n : ℕ) → fits w (withSign false n) ≡ ltb n (2 ^ (w - 1))
 unfolding fits withSign
 fits-nonnegative w n = refl
-
--- a negative one and its complement
-pub complement-mag : (d : ℤ) → leZ (pos 0) d ≡ false → (bitwiseNot d ≡ pos (mag d)) × (d ≡ negsuc (mag d))
-unfolding bitwiseNot
-complement-mag (pos n) h = absurd (true≢false (sym (le-leb 0 n zero-le) ∙ h))
-complement-mag (negsuc n) h = (refl, refl)
 
 -- ---- a position, from the number q that its bits are, read as signed
 

@@ -20,15 +20,11 @@ pub fn magnitude(x: i64) -> u64
     if x < 0 { (!x) as u64 } else { x as u64 }
 }
 
-// The absolute value, that of -2^63 too.
+// The absolute value, that of -2^63 too, which cannot be negated as it is.
 pub fn absolute(x: i64) -> u64
     ensures { λ r. ⌜ r ≡ natAbs x ⌝ }
 {
-    if x < 0 {
-        magnitude(x) + 1
-    } else {
-        magnitude(x)
-    }
+    if x < 0 { (-1 - x) as u64 + 1 } else { x as u64 }
 }
 
 pub fn from_magnitude(negative: bool, m: u64) -> i64

@@ -12,7 +12,8 @@ use Rattle.bits.specs.Shift.{shiftLeft, shiftRight, arithmeticShift}
 use Rattle.words.proofs.WordLaws.{back-word}
 use Rattle.fxtable.specs.Domains.{arg}
 use Rattle.fxtable.specs.Table.{rows, rowOf}
-use Rattle.fxtable.proofs.CallLaws.{done-word, done-never, checked-cong, checked-fits, right-fits}
+use Rattle.bits.proofs.FitsLaws.{right-fits}
+use Rattle.fxtable.proofs.CallLaws.{done-word, done-never, checked-cong, checked-fits}
 use Rattle.fxtable.proofs.MeaningLaws.{two-outcome}
 use Rattle.fxtable.proofs.ArgumentLaws.{fixnum-at}
 use Rattle.fxbits.proofs.ShiftLaws.{shift-call, shift-left, shift-right}
