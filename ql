@@ -1,38 +1,41 @@
 #!/bin/sh
 # Runs the command ql, and builds it first where that is needed: only a proved program is built, so the first time takes minutes.
-# The exit status is 0 for an answer, also for a refused one, 2 for a command line that ql cannot read, and 1 where it cannot be built or run.
+# The exit status is the command's (docs/API.md), and 2 where it cannot be built.
 set -u
-here=$(cd "$(dirname "$0")" && pwd)
+
+fail() {
+    printf 'ql: %s\n' "$1" >&2
+    exit 2
+}
+
+# The folder of this file, also where it is called through a link.
+file=$0
+while [ -L "$file" ]; do
+    link=$(readlink -- "$file")
+    case $link in
+    /*) file=$link ;;
+    *) file=$(dirname -- "$file")/$link ;;
+    esac
+done
+here=$(CDPATH='' cd -- "$(dirname -- "$file")" && pwd -P) || fail "its folder cannot be entered"
 program=$here/target/bin/ql
 
+# Whether the program is there, and no file that it is made from has changed since.
+is_built() {
+    [ -x "$program" ] && [ -z "$(find "$here/crates" "$here/crates.txt" -type f -newer "$program" | head -n 1)" ]
+}
+
+# Proves the library, and links it with the one function in C that calls it.
 build() {
-    command -v rt >/dev/null || {
-        echo "ql: 'rt' of the Rattle kit is not on the PATH, and only it can build ql" >&2
-        exit 1
-    }
+    command -v rt >/dev/null || fail "'rt' of the Rattle kit is not on the PATH, and only it can build ql"
+    mkdir -p "$here/target/bin" 2>/dev/null && [ -w "$here/target/bin" ] || fail "it is not built, and $here/target cannot be written"
     echo 'ql: proving and building the command; from nothing this takes some four minutes, and a line is printed as each part is proved' >&2
-    status=$(mktemp)
-    {
-        (cd "$here" && rt check ql) 2>&1
-        echo $? >"$status"
-    } | grep --line-buffered '^rt: ' >&2
-    proved=$(cat "$status")
-    rm -f "$status"
-    [ "$proved" = 0 ] && touch "$program"
+    log=$here/target/ql.log
+    { (cd "$here" && rt staticlib ql) 2>&1 || echo 'rt: failed'; } | tee "$log" | grep --line-buffered '^rt: ' >&2
+    beside=$(sed -n 's/^rt: .*; link \(.*\) beside it$/\1/p' "$log")
+    [ -n "$beside" ] || fail "it was not built: $log says why"
+    gcc -O2 -o "$program.new" "$here/crates/ql/main.c" "$here/target/staticlib/libql.a" $beside && mv "$program.new" "$program" || fail "it could not be linked"
 }
 
-# The program, unless a file that it is made from has changed since.
-[ -x "$program" ] && [ -z "$(find "$here/crates" "$here/crates.txt" -type f -newer "$program" | head -n 1)" ] || build || {
-    echo "ql: it was not built: 'rt check ql' says why" >&2
-    exit 1
-}
-
-# A Rattle program has no exit status of its own: it says what it cannot read on standard error.
-exec 3>&1
-said=$("$program" "$@" 2>&1 >&3) || {
-    echo "ql: the program was stopped, with status $?" >&2
-    exit 1
-}
-[ -z "$said" ] && exit 0
-printf '%s\n' "$said" >&2
-exit 2
+is_built || build
+exec "$program" "$@"

@@ -1,6 +1,6 @@
 //! Arguments of fixnum calls at the limits of a width.
 
-use quebralua_reference::random::Random;
+use crate::random::Random;
 
 /// What an argument of a fixnum operation is.
 #[derive(Clone, Copy, Debug, PartialEq, Eq)]

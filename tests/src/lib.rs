@@ -1,8 +1,11 @@
-//! The second implementation of every call, and the descriptions of calls that the tests compare.
+//! The second implementation of every call, the descriptions of calls that the tests compare, and the lines of `ql batch`.
 //! Nothing here links the C library.
 
+pub mod batch;
 pub mod call;
+pub mod fixnum_arguments;
 pub mod operation;
 pub mod random;
+pub mod random_arguments;
 pub mod reference;
 pub mod refusal;

@@ -5,7 +5,6 @@ mod binding;
 mod buffer;
 mod checker;
 mod edges;
-mod fixnum_arguments;
 mod library;
 mod lists;
 mod options;

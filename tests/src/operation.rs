@@ -1,4 +1,4 @@
-//! The operations: the limb calls and the conversions, and the Scheme names of the fixnum codes.
+//! The operations: the limb calls and the conversions, and the Scheme names of the fixnum codes and of the limb calls.
 
 #[derive(Clone, Copy, Debug, PartialEq, Eq)]
 pub enum Operation {
@@ -93,6 +93,11 @@ impl Operation {
         }
     }
 
+    /// Whether the argument in that place, counted from 0, is a 64-bit number.
+    pub fn is_number(self, place: usize) -> bool {
+        (1..=self.numbers()).contains(&place)
+    }
+
     /// Whether it takes a width, before all else.
     pub fn takes_width(self) -> bool {
         matches!(self, FixnumToLimbs | LimbsToFixnum)
@@ -147,4 +152,25 @@ pub const FIXNUM_NAMES: [&str; 41] = [
     "fxarithmetic-shift-right",
     "fxrotate-bit-field",
     "fxreverse-bit-field",
+];
+
+/// The Scheme names of the limb calls.
+pub const BITWISE_NAMES: [(&str, Operation); 17] = [
+    ("bitwise-not", Not),
+    ("bitwise-and", And),
+    ("bitwise-ior", Ior),
+    ("bitwise-xor", Xor),
+    ("bitwise-if", If),
+    ("bitwise-bit-count", BitCount),
+    ("bitwise-length", Length),
+    ("bitwise-first-bit-set", FirstBitSet),
+    ("bitwise-bit-set?", BitSet),
+    ("bitwise-copy-bit", CopyBit),
+    ("bitwise-bit-field", BitField),
+    ("bitwise-copy-bit-field", CopyBitField),
+    ("bitwise-arithmetic-shift", Shift),
+    ("bitwise-arithmetic-shift-left", ShiftLeft),
+    ("bitwise-arithmetic-shift-right", ShiftRight),
+    ("bitwise-rotate-bit-field", Rotate),
+    ("bitwise-reverse-bit-field", Reverse),
 ];

@@ -1,6 +1,6 @@
 //! The command line.
 
-use std::time::{SystemTime, UNIX_EPOCH};
+use quebralua_reference::random::clock;
 
 pub const USAGE: &str = "\
 usage: quebralua-tests [--seed N] [--calls N] [--lists N] [--edges-every N] [--no-guards] [--trace]
@@ -22,8 +22,7 @@ pub struct Options {
 
 impl Options {
     fn default() -> Options {
-        let seed = clock();
-        Options { seed, calls: 2_000_000, lists: 20_000, edges_every: 1, no_guards: false, trace: false }
+        Options { seed: clock(), calls: 2_000_000, lists: 20_000, edges_every: 1, no_guards: false, trace: false }
     }
 
     pub fn parse(mut args: impl Iterator<Item = String>) -> Result<Options, String> {
@@ -52,8 +51,4 @@ impl Options {
         }
         Ok(options)
     }
-}
-
-fn clock() -> u64 {
-    SystemTime::now().duration_since(UNIX_EPOCH).map_or(0, |time| time.as_nanos() as u64)
 }

@@ -1,5 +1,7 @@
 //! A small generator of pseudorandom numbers: splitmix64.
 
+use std::time::{SystemTime, UNIX_EPOCH};
+
 pub struct Random {
     state: u64,
 }
@@ -43,4 +45,9 @@ impl Random {
     pub fn choose<T: Copy>(&mut self, items: &[T]) -> T {
         items[self.below(items.len() as u64) as usize]
     }
+}
+
+/// A seed from the clock.
+pub fn clock() -> u64 {
+    SystemTime::now().duration_since(UNIX_EPOCH).map_or(0, |time| time.as_nanos() as u64)
 }

@@ -1,43 +1,55 @@
 // The cases that document 01 has a program run: each line has a call and its answer.
-use output::print;
-use output::print_decimal;
-use output::print_natural;
+use output::put;
+use output::put_decimal;
+use output::put_natural;
 
-fn print_shift(x: i64, distance: i64) {
-    print(b": shift ");
-    print_decimal(x);
-    print(b" by ");
-    print_decimal(distance);
+fn put_shift(x: i64, distance: i64, text: &mut [u8], at: usize) -> usize {
+    let at = put(b": shift ", text, at);
+    let at = put_decimal(x, text, at);
+    let at = put(b" by ", text, at);
+    put_decimal(distance, text, at)
 }
 
-// The end of a line: a refusal, or an integer where the refusal is 0.
-fn print_answer(refusal: u64, n: i64) {
+// A refusal, or an integer where the refusal is 0.
+fn put_answer(refusal: u64, n: i64, text: &mut [u8], at: usize) -> usize {
     if refusal == 0 {
-        print(b" is ");
-        print_decimal(n);
-    } else {
-        print(b" is refused ");
-        print_natural(refusal);
+        let at = put(b" is ", text, at);
+        return put_decimal(n, text, at);
     }
-    print(b"\n");
+    let at = put(b" is refused ", text, at);
+    put_natural(refusal, text, at)
+}
+
+fn write_line(text: &mut [u8], at: usize) {
+    let n = put(b"\n", text, at);
+    io::write_all(1, &text[..n]);
 }
 
 fn shift_fixnum(width: u64, x: i64, distance: i64) {
-    print(b"fixnum, width ");
-    print_natural(width);
-    print_shift(x, distance);
+    let mut text = [0u8; 128];
+    let at = put(b"fixnum, width ", &mut text, 0);
+    let at = put_natural(width, &mut text, at);
+    let at = put_shift(x, distance, &mut text, at);
     let answer = fixnum::call(width, 37, [x, distance, 0, 0], 2);
-    print_answer(answer.refusal, answer.first);
+    let at = put_answer(answer.refusal, answer.first, &mut text, at);
+    write_line(&mut text, at);
 }
 
 // The limbs of a result are printed as the integer that they are. A refused call has written none.
 fn shift_limbs(x: &[u32], distance: i64, out: &mut [u32]) {
-    print(b"limbs, capacity ");
-    print_natural(out.len() as u64);
-    print_shift(limbs::to_word(x).value, distance);
+    let mut text = [0u8; 128];
+    let at = put(b"limbs, capacity ", &mut text, 0);
+    let at = put_natural(out.len() as u64, &mut text, at);
+    let at = put_shift(limbs::to_word(x).value, distance, &mut text, at);
     let answer = limbs::bitwise_shift(x, distance, out, 0);
     let n = answer.length as usize;
-    print_answer(answer.refusal, limbs::to_word(&out[..n]).value);
+    let at = put_answer(
+        answer.refusal,
+        limbs::to_word(&out[..n]).value,
+        &mut text,
+        at,
+    );
+    write_line(&mut text, at);
 }
 
 fn main() {

@@ -19,7 +19,7 @@ use Rattle.outcomes.specs.Buffer.{afterwards, countOf}
 use Rattle.outcomes.proofs.OutcomeLaws.{passed}
 use Rattle.outcomes.proofs.BufferLaws.{laid-copy}
 use Rattle.limbwords.specs.Value.{value, limbCount}
-use Rattle.text.specs.Numerals.{digit, areDigits, numeralFrom, numeral, byteAt, isMinus, afterSign, isPrefix, isHex, base, digitsFrom, isInteger, integer}
+use Rattle.text.specs.Numerals.{digit, areDigits, numeralFrom, numeral, byteAt, oneOf, zeroBase, prefixBase, isHash, signAt, isMinus, afterSign, base, isHex, digitsFrom, isInteger, integer}
 use Rattle.text.specs.declared.Reading.{Reading}
 use Rattle.text.specs.declared.LimbReading.{LimbReading}
 use Rattle.text.specs.Readings.{reading, enough, limbReading}
@@ -73,22 +73,22 @@ abbrev text : Bool → List ℕ → List ℕ
 text negative ds = dash negative ++ (48 ∷ 120 ∷ ds)
 
 isInteger-text : (negative : Bool) (ds : List ℕ) → 0 < length ds → areDigits 16 ds ≡ true → isInteger (text negative ds) ≡ true
-unfolding byteAt isMinus afterSign isPrefix isHex base digitsFrom isInteger
+unfolding byteAt oneOf zeroBase prefixBase isHash signAt isMinus afterSign base digitsFrom isInteger
 isInteger-text true ds h e = ap₂ _&&_ (lt-ltb 3 (suc (suc (suc (length ds)))) (omega arith)) e
 isInteger-text false ds h e = ap₂ _&&_ (lt-ltb 2 (suc (suc (length ds))) (omega arith)) e
 
 integer-text : (negative : Bool) (ds : List ℕ) → integer (text negative ds) ≡ withSign negative (numeral 16 ds)
-unfolding byteAt isMinus afterSign isPrefix isHex base digitsFrom integer
+unfolding byteAt oneOf zeroBase prefixBase isHash signAt isMinus afterSign base digitsFrom integer
 integer-text true ds = refl
 integer-text false ds = refl
 
 isHex-text : (negative : Bool) (ds : List ℕ) → isHex (text negative ds) ≡ true
-unfolding byteAt isMinus afterSign isPrefix isHex
+unfolding byteAt oneOf zeroBase prefixBase isHash signAt isMinus afterSign base isHex
 isHex-text true ds = refl
 isHex-text false ds = refl
 
 enough-text : (negative : Bool) (ds : List ℕ) → enough (text negative ds) ≡ (length ds + 7) / 8 + 1
-unfolding byteAt isMinus afterSign isPrefix isHex digitsFrom enough
+unfolding byteAt oneOf zeroBase prefixBase isHash signAt isMinus afterSign base isHex digitsFrom enough
 enough-text true ds = omega arith
 enough-text false ds = omega arith
 

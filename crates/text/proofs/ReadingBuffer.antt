@@ -8,6 +8,7 @@ use lib.Dec.{leb, ltb}
 use lib.IntN.{ℤ, pos, natAbs}
 use lib.ListN.{length, take, drop}
 use lib.Seq.{take-at, take-append-le}
+use borrow.Author.Tests.{eq-eqb, ne-eqb}
 use Rattle.bits.specs.Testbit.{isNegative, bitLength}
 use Rattle.words.specs.Sign.{withSign}
 use Rattle.bits.proofs.LengthLaws.{bitLength-le}
@@ -15,11 +16,10 @@ use Rattle.limbwords.specs.Value.{value, limbsOf, limbCount, shortest}
 use Rattle.limbwords.proofs.ValueLaws.{length-limbsOf, value-limbsOf}
 use Rattle.words.proofs.SignedLaws.{natAbs-withSign}
 use Rattle.text.specs.declared.LimbReading.{LimbReading}
-use Rattle.text.specs.declared.form.Parts.{Parts}
-use Rattle.text.specs.Numerals.{areDigits, numeral, isHex, isInteger, integer}
+use Rattle.text.specs.Numerals.{areDigits, numeral, isMinus, base, isHex, digitsFrom, isInteger, integer}
 use Rattle.text.specs.Readings.{enough, limbReading, Holds}
-use Rattle.text.specs.Inner.{parts, Lays}
-use Rattle.text.proofs.ReadingParts.{hexadecimal-is, rest, rest-length, integer-is}
+use Rattle.text.specs.Inner.{Lays}
+use Rattle.text.proofs.ReadingParts.{rest, rest-length, hex-is, integer-is}
 use Rattle.text.proofs.NumeralLimbs.{numeral-below, put-length}
 
 -- ---- the natural number, before it has its sign
@@ -72,16 +72,16 @@ lays-as {z} {y} {fits} {r} {out} w e f = subst (λ (t : Bool). Lays y t r out) (
 abbrev pub limbsFit : List ℕ → ℕ → Bool
 limbsFit cs k = (isHex cs || ltb (natAbs (integer cs)) (2 ^ 64)) && leb (enough cs) k
 
-module _ (cs : List ℕ) (k : ℕ) {p : Parts} (e : p ≡ parts cs) where
-  pub hexadecimal-fits : p .hexadecimal ≡ true → limbsFit cs k ≡ leb ((length (rest cs e) + 7) / 8 + 1) k
+module _ (cs : List ℕ) (k : ℕ) {b start : ℕ} (f : b ≡ base cs) (s : start ≡ digitsFrom cs) where
+  pub hexadecimal-fits : b ≡ 16 → limbsFit cs k ≡ leb ((length (rest cs f s) + 7) / 8 + 1) k
   unfolding enough
-  hexadecimal-fits h = rw (sym (hexadecimal-is cs e) ∙ h, rest-length cs e) refl
+  hexadecimal-fits h = rw (hex-is cs f s ∙ eq-eqb b 16 h, rest-length cs f s) refl
 
-  pub decimal-fits : {b : ℕ} → b ≡ cond (p .hexadecimal) 16 10 → p .hexadecimal ≡ false → limbsFit cs k ≡ ltb (numeral b (rest cs e)) (2 ^ 64) && leb 3 k
+  pub bounded-fits : {negative : Bool} → negative ≡ isMinus cs → (b ≡ 16 → ⊥) → limbsFit cs k ≡ ltb (numeral b (rest cs f s)) (2 ^ 64) && leb 3 k
   unfolding enough
-  decimal-fits {b} f h =
-      rw (sym (hexadecimal-is cs e) ∙ h)
-      (ap (λ (n : ℕ). ltb n (2 ^ 64) && leb 3 k) (ap natAbs (integer-is cs e f) ∙ natAbs-withSign (p .negative) (numeral b (rest cs e))))
+  bounded-fits {negative} n h =
+      rw (hex-is cs f s ∙ ne-eqb b 16 h)
+      (ap (λ (m : ℕ). ltb m (2 ^ 64) && leb 3 k) (ap natAbs (integer-is cs f s n) ∙ natAbs-withSign negative (numeral b (rest cs f s))))
 
 pub limbs-malformed : (cs : List ℕ) (k : ℕ) (out : List ℕ) → isInteger cs ≡ false
     → (LimbReading.Malformed ≡ limbReading cs k) × Holds cs LimbReading.Malformed out

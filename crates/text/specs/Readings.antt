@@ -3,7 +3,7 @@
 --   enough cs          ==  limbs that are enough while it is read: one for each eight hexadecimal digits, or two, and one for the sign
 --   limbReading cs k   ==  of a text as limbs in a buffer of k limbs: how many the integer has in its shortest form
 --   Holds cs r out     ==  where r counts limbs, the buffer begins with the shortest limbs of the integer
--- A decimal number from 2^64 on is too large: longer ones are read in hexadecimal alone.
+-- A number of another base than 16 is too large from 2^64 on: longer ones are read in hexadecimal alone.
 use Prim.Native.Nat.{ℕ, _+_, _-_, _/_, _^_}
 use mathlib.Core.Path.{_≡_}
 use mathlib.Core.Bool.{cond, _&&_, _||_}

@@ -94,15 +94,16 @@ fn read_hexadecimal(negative: bool, digits: &[u8], out: &mut [u32]) -> LimbReadi
     sign_first(negative, n, out)
 }
 
-// In decimal, below 2^64.
-fn read_decimal(negative: bool, digits: &[u8], out: &mut [u32]) -> LimbReading
-    requires { ⌜ areDigits 10 (now digits) ≡ true ⌝ }
-    ensures { λ r. ⌜ Lays (withSign negative (numeral 10 (now (digits .entry)))) (ltb (numeral 10 (now (digits .entry))) (2 ^ 64) && leb 3 (length (now (out .entry)))) r (now (out .exit)) ⌝ }
+// In another base, below 2^64.
+fn read_bounded(negative: bool, base: u64, digits: &[u8], out: &mut [u32]) -> LimbReading
+    requires { ⌜ (0 < base) × (base ≤ 16) ⌝ }
+    requires { ⌜ areDigits base (now digits) ≡ true ⌝ }
+    ensures { λ r. ⌜ Lays (withSign negative (numeral base (now (digits .entry)))) (ltb (numeral base (now (digits .entry))) (2 ^ 64) && leb 3 (length (now (out .entry)))) r (now (out .exit)) ⌝ }
 {
     if out.len() < 3 {
         return LimbReading::TooLarge;
     }
-    match sum_digits(10, digits) {
+    match sum_digits(base, digits) {
         Natural::Value(n) => {
             put_word(n, out);
             sign_first(negative, 3, out)
@@ -116,14 +117,14 @@ pub fn read_limbs(text: &[u8], out: &mut [u32]) -> LimbReading
     ensures { λ r. ⌜ r ≡ limbReading (now (text .entry)) (length (now (out .entry))) ⌝ }
     ensures { λ r. ⌜ Holds (now (text .entry)) r (now (out .exit)) ⌝ }
 {
-    if !is_integer(text) {
-        return LimbReading::Malformed;
-    }
     let parts = take_apart(text);
     let start = parts.start;
-    if parts.hexadecimal {
+    if !is_integer(parts.base, start, text) {
+        return LimbReading::Malformed;
+    }
+    if parts.base == 16 {
         read_hexadecimal(parts.negative, &text[start..], out)
     } else {
-        read_decimal(parts.negative, &text[start..], out)
+        read_bounded(parts.negative, parts.base, &text[start..], out)
     }
 }

@@ -2,10 +2,10 @@
 
 use super::limb_operands::{long, refused, short};
 use crate::checker::Checker;
-use crate::fixnum_arguments::{greatest, least, numbers};
 use crate::outputs::Shape;
 use crate::report::{difference, shown};
 use quebralua_reference::call::LimbCall;
+use quebralua_reference::fixnum_arguments::{greatest, least, numbers};
 use quebralua_reference::reference::integer::Integer;
 
 pub fn run(checker: &mut Checker) {

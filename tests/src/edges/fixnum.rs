@@ -1,8 +1,10 @@
 //! Each code at each width, with every count and with arguments around every limit.
 
 use crate::checker::Checker;
-use crate::fixnum_arguments::{few_numbers, few_positions, kind, least, numbers, positions, Kind, NEW_BITS};
 use quebralua_reference::call::FixnumCall;
+use quebralua_reference::fixnum_arguments::{
+    few_numbers, few_positions, kind, least, numbers, positions, Kind, NEW_BITS,
+};
 use quebralua_reference::reference::fixnum::argument_counts;
 
 pub fn run(checker: &mut Checker) {

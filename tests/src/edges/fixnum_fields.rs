@@ -1,8 +1,8 @@
 //! Every field of every width, and every rotation count of it.
 
 use crate::checker::Checker;
-use crate::fixnum_arguments::{least, random_fixnum};
 use quebralua_reference::call::FixnumCall;
+use quebralua_reference::fixnum_arguments::{least, random_fixnum};
 
 pub fn run(checker: &mut Checker) {
     for width in 24..=62 {

@@ -1,22 +1,7 @@
 //! Operands at the limits: values around powers of two at limb boundaries, padded and not, of every telling length.
 
 use quebralua_reference::random::Random;
-
-/// Limbs with bits at their ends.
-pub const LIMBS: [u32; 12] = [
-    0,
-    1,
-    2,
-    0xFFFF_FFFF,
-    0xFFFF_FFFE,
-    0x7FFF_FFFF,
-    0x8000_0000,
-    0x8000_0001,
-    0x5555_5555,
-    0xAAAA_AAAA,
-    0x0001_0000,
-    0xFFFF_0000,
-];
+use quebralua_reference::random_arguments::limbs::LIMBS;
 
 /// Every operand of one limb.
 pub fn one_limb() -> Vec<Vec<u32>> {

@@ -10,7 +10,6 @@ mod limbs;
 mod pointers;
 
 use crate::checker::Checker;
-pub use limb_operands::LIMBS;
 
 pub fn fixnum(checker: &mut Checker) {
     fixnum::run(checker);

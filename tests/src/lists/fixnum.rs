@@ -2,8 +2,8 @@
 
 use super::part::{Bitwise, Part};
 use crate::checker::Checker;
-use crate::fixnum_arguments::{greatest, least, positions, random_fixnum};
 use quebralua_reference::call::FixnumCall;
+use quebralua_reference::fixnum_arguments::{greatest, least, positions, random_fixnum};
 use quebralua_reference::random::Random;
 use quebralua_reference::reference::integer::Integer;
 use quebralua_reference::reference::lists::Step;

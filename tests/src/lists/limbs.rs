@@ -3,10 +3,10 @@
 use super::part::{Bitwise, Part};
 use crate::checker::Checker;
 use crate::outputs::WITH_ROOM;
-use crate::random_calls::limb_arguments::{accepted_operand, count};
 use quebralua_reference::call::LimbCall;
 use quebralua_reference::operation::Operation;
 use quebralua_reference::random::Random;
+use quebralua_reference::random_arguments::limbs::{accepted_operand, count};
 use quebralua_reference::reference::integer::Integer;
 use quebralua_reference::reference::limbs::GREATEST_END;
 use quebralua_reference::reference::lists::Step;

@@ -1,12 +1,11 @@
 //! Random limb calls and conversions.
 
-use super::fixnum::width;
-use super::limb_arguments::{count, distance, field, operand, position};
 use crate::checker::Checker;
-use crate::fixnum_arguments::random_fixnum;
 use quebralua_reference::call::LimbCall;
-use quebralua_reference::operation::Operation::{self, *};
-use quebralua_reference::random::Random;
+use quebralua_reference::fixnum_arguments::random_fixnum;
+use quebralua_reference::operation::Operation;
+use quebralua_reference::random_arguments::fixnum::width;
+use quebralua_reference::random_arguments::limbs::{numbers, operand};
 use quebralua_reference::reference::integer::Integer;
 
 pub fn call(checker: &mut Checker) {
@@ -20,26 +19,6 @@ pub fn call(checker: &mut Checker) {
     let numbers = numbers(random, operation, operands[0].len());
     let taken = &operands[..operation.operands()];
     checker.any(&LimbCall::new(operation, taken, &numbers[..operation.numbers()]));
-}
-
-fn numbers(random: &mut Random, operation: Operation, length: usize) -> [i64; 3] {
-    match operation {
-        CopyBit if random.one_in(8) => [position(random, length), random.between(-1, 3), 0],
-        CopyBit => [position(random, length), random.between(0, 1), 0],
-        Shift => [distance(random, length), 0, 0],
-        ShiftLeft | ShiftRight => {
-            let distance = distance(random, length);
-            [if random.one_in(8) { distance } else { distance.saturating_abs() }, 0, 0]
-        }
-        Rotate => {
-            let (start, end) = field(random, length);
-            [start, end, count(random, end.wrapping_sub(start))]
-        }
-        _ => {
-            let (start, end) = field(random, length);
-            [start, end, 0]
-        }
-    }
 }
 
 /// Numbers of about as many bits as the width, and any operand now and then.

@@ -6,20 +6,19 @@ use Rattle.text.proofs.form.is_integer.Statement.{statement}
 use Rattle.text.proofs.form.is_integer.Tie as tie
 
 returns : tie.Need-returns
-returns c = sym (too-short _ (c .before .take-apart .ensures .0) (c .if1 .taken))
+returns c = let p = c .before .before .pre in sym (too-short _ (p .0) (p .1) (c .if1 .taken))
 
 returns-2 : tie.Need-returns-2
 returns-2 c =
     let b = c .before .before in
-    c .are-digits .ensures ∙ sym (all-digits _ (b .before .before .take-apart .ensures .0) (b .base-of .ensures) (b .before .if1 .left))
+    let p = b .before .before .pre in
+    c .are-digits .ensures ∙ sym (all-digits _ (p .0) (p .1) (b .if1 .left))
 
 pub is-integer-spec : {M : Type 1} → statement M
 is-integer-spec =
     tie.close
     (tie.spec
-    (λ c κs. search needs)
     returns
-    (λ c κs. search needs)
     (λ c. search needs)
     (λ c. search needs)
     (λ c. search needs)

@@ -1,0 +1,68 @@
+// What the command `ql` answers to a line of words, as text and an exit status.
+use fxcalls::fx::reply_fx;
+use fxcalls::widths::reply_widths;
+use help::COMMANDS;
+use help::ops::reply_ops;
+use help::put_usage;
+use help::reply_about;
+use help::reply_help;
+use limbcalls::bitwise::reply_bitwise;
+use line::count;
+use line::is_word;
+use line::number::line_of;
+use line::reply::Reply;
+use line::reply::TROUBLE;
+use line::reply::done;
+use line::reply::trouble;
+use line::trouble::Expected;
+use listcalls::reply_list;
+use output::put;
+
+const VERSION: [u8; 19] = *b"ql (quebralua) 0.2\n";
+
+// Whether a line asks for the calls of standard input.
+pub fn is_batch(line: &[u8]) -> bool {
+    count(line) == 1 && is_word(line, 1, b"batch")
+}
+
+fn asks_help(line: &[u8], i: usize) -> bool {
+    is_word(line, i, b"--help") || is_word(line, i, b"-h")
+}
+
+fn reply_command(line: &[u8], out: &mut [u8]) -> Reply {
+    match line_of(line, 1, &COMMANDS) {
+        1 => reply_fx(line, b"\n", out),
+        2 => reply_widths(line, out),
+        3 => reply_bitwise(line, out),
+        4 => reply_list(line, out),
+        5 => reply_ops(line, out),
+        6 => reply_help(line, out),
+        7 => trouble(line, 2, Expected::End, out),
+        _ => {
+            if is_word(line, 1, b"--version") {
+                done(put(&VERSION, out, 0))
+            } else {
+                trouble(line, 1, Expected::Command, out)
+            }
+        }
+    }
+}
+
+// What the words of the command line are answered, but for `batch`.
+pub fn reply_words(line: &[u8], out: &mut [u8]) -> Reply {
+    let n = count(line);
+    if n == 0 {
+        return Reply {
+            status: TROUBLE,
+            filled: put_usage(out),
+        };
+    }
+    if !asks_help(line, n) {
+        return reply_command(line, out);
+    }
+    if n == 1 {
+        done(put_usage(out))
+    } else {
+        reply_about(line, n - 1, out)
+    }
+}

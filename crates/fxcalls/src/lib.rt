@@ -1,0 +1,5 @@
+// The fixnum calls of the command, answered in words.
+pub mod explain;
+pub mod fx;
+pub mod request;
+pub mod widths;

@@ -1,0 +1,3 @@
+// The bitwise calls of the command, answered in words.
+pub mod bitwise;
+pub mod rules;

@@ -1,0 +1,97 @@
+// The numbers that words are.
+use super::names::FIXNUM;
+use super::names::find;
+use super::trouble::Expected;
+use super::word;
+use text::Reading;
+use words::sign::absolute;
+
+pub enum Given {
+    Number(i64),
+    Bad(Expected),
+}
+
+pub fn number(line: &[u8], i: usize) -> Given {
+    let word = word(line, i);
+    let start = word.start;
+    let end = word.end;
+    match text::read_word(&line[start..end]) {
+        Reading::Number(value) => Given::Number(value),
+        Reading::Malformed => Given::Bad(Expected::Number),
+        Reading::TooLarge => Given::Bad(Expected::NumberOfOneWord),
+    }
+}
+
+// A width or a code.
+pub enum Natural {
+    Number(u64),
+    Bad(Expected),
+}
+
+pub fn width(line: &[u8], i: usize) -> Natural {
+    if let Given::Number(value) = number(line, i) {
+        if 0 <= value {
+            return Natural::Number(absolute(value));
+        }
+    }
+    Natural::Bad(Expected::Width)
+}
+
+// The line of a table that has a word for its name, or 0.
+pub fn line_of(line: &[u8], i: usize, table: &[u8]) -> u64 {
+    let word = word(line, i);
+    let start = word.start;
+    let end = word.end;
+    find(table, 0, &line[start..end]).number
+}
+
+// The code of the fixnum operation that a word names or is.
+pub fn operation(line: &[u8], i: usize) -> Natural {
+    let code = line_of(line, i, &FIXNUM);
+    if code != 0 {
+        return Natural::Number(code);
+    }
+    if let Given::Number(value) = number(line, i) {
+        if 0 <= value {
+            return Natural::Number(absolute(value));
+        }
+    }
+    Natural::Bad(Expected::FixnumOperation)
+}
+
+// The numbers of words. `bad` is the first word that is none, or 0.
+pub struct Numbers {
+    pub bad: usize,
+    pub expected: Expected,
+    pub values: [i64; 4],
+}
+
+// The words past the first few, up to one that is counted, as numbers. The first four are kept, and where there are fewer the others are 0.
+pub fn numbers_between(line: &[u8], few: usize, last: usize) -> Numbers {
+    let mut values = [0; 4];
+    let mut i = few;
+    let mut k = 0;
+    while i < last {
+        match number(line, i + 1) {
+            Given::Number(value) => {
+                if k < 4 {
+                    values[k] = value;
+                    k += 1;
+                }
+            }
+            Given::Bad(expected) => {
+                return Numbers {
+                    bad: i + 1,
+                    expected,
+                    values,
+                };
+            }
+        }
+        i += 1;
+    }
+    Numbers {
+        bad: 0,
+        expected: Expected::Number,
+        values,
+    }
+}

@@ -1,0 +1,58 @@
+// The command `ql`: what the words of the command line ask is answered on standard output, or on standard error where a word cannot be
+// read, by one write.
+use batch::run_batch;
+use batch::write::write_reply;
+use command::is_batch;
+use command::reply_words;
+use line::reply::TROUBLE;
+use output::put;
+
+// Puts a word of the command line, and a byte 0, into the line from an index on, and answers the index after them. The line is full
+// where there is no room.
+fn take_word(i: usize, line: &mut [u8], at: usize) -> usize {
+    if line.len() <= at {
+        return line.len();
+    }
+    let k = os::arg(i, &mut line[at..]);
+    if os::errno() != 0 {
+        return line.len();
+    }
+    if line.len() - at <= k {
+        return line.len();
+    }
+    line[at + k] = 0;
+    at + k + 1
+}
+
+// All words of the command line.
+fn take_words(line: &mut [u8]) -> usize {
+    let n = os::arg_count();
+    let mut at = 0;
+    let mut i = 1;
+    while i < n {
+        at = take_word(i, line, at);
+        i += 1;
+    }
+    at
+}
+
+// Answers the command line, and gives the exit status.
+#[no_mangle]
+pub extern "C" fn ql_command() -> u64 {
+    let mut line = io::large_buffer();
+    let mut out = io::large_buffer();
+    let at = take_words(&mut line);
+    let n = put(b"", &mut line, at);
+    if n == line.len() {
+        return write_reply(
+            TROUBLE,
+            b"ql: the words have more than 65535 bytes together\n",
+        );
+    }
+    if is_batch(&line[..n]) {
+        return run_batch(&mut line, &mut out);
+    }
+    let reply = reply_words(&line[..n], &mut out);
+    let k = put(b"", &mut out, reply.filled);
+    write_reply(reply.status, &out[..k])
+}

@@ -1,0 +1,87 @@
+//! How many lines were compared, and how they were answered.
+
+use quebralua_reference::batch::expected::Expected;
+use quebralua_reference::batch::form::Form;
+use std::fmt;
+
+/// The refusals that the command can answer: it has room for every result, so that 8 never comes.
+const REFUSALS: std::ops::RangeInclusive<usize> = 1..=7;
+/// The word of the last of five arguments of `fx`.
+const LAST_WORD: usize = 8;
+
+pub struct Tally {
+    empty: u64,
+    /// Done calls by operation, in the order of `Form::all`.
+    done: Vec<(Form, u64)>,
+    refused: [u64; 9],
+    /// By the number of the word.
+    unreadable: [u64; LAST_WORD + 1],
+    missing: [u64; 4],
+    too_long: u64,
+    /// Runs by exit status.
+    statuses: [u64; 3],
+}
+
+impl Tally {
+    pub fn new() -> Tally {
+        Tally {
+            empty: 0,
+            done: Form::all().map(|form| (form, 0)).collect(),
+            refused: [0; 9],
+            unreadable: [0; LAST_WORD + 1],
+            missing: [0; 4],
+            too_long: 0,
+            statuses: [0; 3],
+        }
+    }
+
+    pub fn line(&mut self, answer: &Expected) {
+        let place = match answer {
+            Expected::Empty => &mut self.empty,
+            Expected::Done(form, _) => self.done_with(*form),
+            Expected::Refused(number) => &mut self.refused[*number as usize],
+            Expected::Unreadable(word, _) => &mut self.unreadable[*word],
+            Expected::Missing(word) => &mut self.missing[*word],
+            Expected::TooLong => &mut self.too_long,
+        };
+        *place += 1;
+    }
+
+    pub fn status(&mut self, status: i32) {
+        self.statuses[status as usize] += 1;
+    }
+
+    fn done_with(&mut self, form: Form) -> &mut u64 {
+        let place = self.done.iter_mut().find(|row| row.0 == form).expect("a done call has an operation");
+        &mut place.1
+    }
+
+    /// Every kind of answer that no compared line has shown.
+    pub fn missing(&self) -> Vec<String> {
+        let done = self.done.iter().map(|(form, count)| (format!("{}: a done call", form.shown()), *count));
+        let refused = REFUSALS.map(|number| (format!("refused {number}"), self.refused[number]));
+        let unreadable = (1..=LAST_WORD).map(|word| (format!("word {word} unreadable"), self.unreadable[word]));
+        let missing = (2..=3).map(|word| (format!("word {word} missing"), self.missing[word]));
+        let statuses = (0..=2).map(|status| (format!("exit status {status}"), self.statuses[status]));
+        let others = [("an empty line", self.empty), ("a line that is too long", self.too_long)];
+        let others = others.map(|(name, count)| (name.to_string(), count));
+        let all = done.chain(refused).chain(unreadable).chain(missing).chain(statuses).chain(others);
+        all.filter(|(_, count)| *count == 0).map(|(name, _)| name).collect()
+    }
+}
+
+impl fmt::Display for Tally {
+    fn fmt(&self, f: &mut fmt::Formatter) -> fmt::Result {
+        let done: u64 = self.done.iter().map(|row| row.1).sum();
+        let [refused, unreadable, missing] =
+            [&self.refused[..], &self.unreadable, &self.missing].map(|counts| counts.iter().sum::<u64>());
+        let all = done + refused + unreadable + missing + self.empty + self.too_long;
+        writeln!(f, "lines compared {all}: done {done}, empty {}, too long {}", self.empty, self.too_long)?;
+        write!(f, "refused {refused}, by number:")?;
+        REFUSALS.into_iter().try_for_each(|number| write!(f, " {number}: {}", self.refused[number]))?;
+        write!(f, "\nunreadable {unreadable}, by word:")?;
+        (1..=LAST_WORD).try_for_each(|word| write!(f, " {word}: {}", self.unreadable[word]))?;
+        write!(f, "\na word missing {missing}\nruns by exit status:")?;
+        (0..=2).try_for_each(|status| write!(f, " {status}: {}", self.statuses[status]))
+    }
+}

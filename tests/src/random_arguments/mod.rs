@@ -1,0 +1,4 @@
+//! Random arguments, legal and not, most of them near a limit.
+
+pub mod fixnum;
+pub mod limbs;
