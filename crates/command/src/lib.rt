@@ -1,7 +1,6 @@
 // What the command `ql` answers to a line of words, as text and an exit status.
 use fxcalls::fx::reply_fx;
 use fxcalls::widths::reply_widths;
-use help::COMMANDS;
 use help::ops::reply_ops;
 use help::put_usage;
 use help::reply_about;
@@ -9,6 +8,7 @@ use help::reply_help;
 use limbcalls::bitwise::reply_bitwise;
 use line::count;
 use line::is_word;
+use line::names::Table;
 use line::number::line_of;
 use line::reply::Reply;
 use line::reply::TROUBLE;
@@ -30,7 +30,7 @@ fn asks_help(line: &[u8], i: usize) -> bool {
 }
 
 fn reply_command(line: &[u8], out: &mut [u8]) -> Reply {
-    match line_of(line, 1, &COMMANDS) {
+    match line_of(line, 1, Table::Commands) {
         1 => reply_fx(line, b"\n", out),
         2 => reply_widths(line, out),
         3 => reply_bitwise(line, out),

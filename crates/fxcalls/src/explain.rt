@@ -1,15 +1,19 @@
 // Why a fixnum call is refused, in words.
 use super::request::Request;
 use fxtable::domains::Domain;
+use fxtable::table::CODES;
 use fxtable::table::Signature;
 use fxtable::table::signature_of;
+use fxtable::width::LARGEST_WIDTH;
+use fxtable::width::LEAST_WIDTH;
 use fxtable::width::is_fixnum;
-use line::names::FIXNUM;
+use line::names::Table;
 use line::refusal::is_position;
 use line::refusal::outside_field;
 use line::refusal::put_argument;
 use line::refusal::put_count_rule;
 use line::refusal::put_refused;
+use line::refusal::put_span;
 use output::put;
 use output::put_natural;
 use words::sign::power;
@@ -73,23 +77,23 @@ pub fn put_domains(signature: Signature, out: &mut [u8], at: usize) -> usize {
 }
 
 // `the width is 63, and must be from 24 to 62`
-fn put_limit(what: &[u8], n: u64, limits: &[u8], out: &mut [u8], at: usize) -> usize {
+fn put_limit(what: &[u8], n: u64, first: u64, last: u64, out: &mut [u8], at: usize) -> usize {
     let at = put(b"the ", out, at);
     let at = put(what, out, at);
     let at = put(b" is ", out, at);
     let at = put_natural(n, out, at);
     let at = put(b", and must be from ", out, at);
-    put(limits, out, at)
+    put_span(first, last, out, at)
 }
 
 // The rule that a refused call breaks. It holds for every width with the same answer.
 pub fn put_rule(width: u64, request: Request, refusal: u64, out: &mut [u8], at: usize) -> usize {
     let signature = signature_of(request.code);
     match refusal {
-        1 => put_limit(b"width", width, b"24 to 62", out, at),
-        2 => put_limit(b"code", request.code, b"1 to 41", out, at),
+        1 => put_limit(b"width", width, LEAST_WIDTH, LARGEST_WIDTH, out, at),
+        2 => put_limit(b"code", request.code, 1, CODES, out, at),
         3 => put_count_rule(
-            &FIXNUM,
+            Table::Fixnum,
             request.code,
             signature.least,
             signature.most,

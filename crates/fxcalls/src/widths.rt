@@ -5,6 +5,8 @@ use super::fx::put_results;
 use super::request::Request;
 use super::request::answer;
 use super::request::take_request;
+use fxtable::width::LARGEST_WIDTH;
+use fxtable::width::LEAST_WIDTH;
 use line::refusal::put_refused;
 use line::refusal::put_span;
 use line::reply::Reply;
@@ -14,10 +16,10 @@ use line::reply::trouble;
 use output::put;
 use output::put_if;
 
-const FIRST: u64 = 24;
+const FIRST: u64 = LEAST_WIDTH;
 
 // The width past the last.
-const PAST: u64 = 63;
+const PAST: u64 = LARGEST_WIDTH + 1;
 
 // Whether two widths have the same answer.
 fn agree(request: Request, v: u64, w: u64) -> bool {

@@ -6,7 +6,7 @@ ghost use Rattle.fxtable.specs.Calls.{isCount};
 use super::domains::Domain;
 use super::domains::Domain as D;
 
-const CODES: u64 = 41;
+pub const CODES: u64 = 41;
 
 pub fn is_code(code: u64) -> bool
     ensures { λ r. ⌜ r ≡ isCode code ⌝ }

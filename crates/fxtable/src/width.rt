@@ -7,9 +7,9 @@ ghost use Rattle.fxtable.specs.Calls.{counted, allFixnums};
 ghost use Rattle.fxtable.specs.Domains.{isWidth};
 use words::sign;
 
-const LEAST_WIDTH: u64 = 24;
+pub const LEAST_WIDTH: u64 = 24;
 
-const LARGEST_WIDTH: u64 = 62;
+pub const LARGEST_WIDTH: u64 = 62;
 
 pub fn is_width(width: u64) -> bool
     ensures { λ r. ⌜ r ≡ isWidth width ⌝ }

@@ -14,8 +14,8 @@ use limbcalls::rules::numbers_of;
 use limbcalls::rules::put_domain;
 use line::count;
 use line::is_word;
-use line::names::BITWISE;
-use line::names::FIXNUM;
+use line::names::Table;
+use line::names::put_entry;
 use line::names::put_line;
 use line::names::put_name;
 use line::number::line_of;
@@ -27,15 +27,6 @@ use line::split;
 use line::trouble::Expected;
 use output::put;
 use output::put_natural;
-
-// The commands.
-pub const COMMANDS: [u8; 37] = *b"fx
-widths
-bitwise
-list
-ops
-help
-batch";
 
 // What the fixnum operations on numbers are, codes 1 to 24.
 const NUMBER_MEANINGS: [u8; 1060] = *b"whether each argument equals the next
@@ -132,7 +123,7 @@ pub fn put_usage(out: &mut [u8]) -> usize {
     let at = put(
         b"ql: the fixnum and bitwise operations of R6RS, proved
 
-  ql fx WIDTH OP ARG..                    a fixnum operation at a width from 24 to 62
+  ql fx WIDTH OP ARG..                    a fixnum operation at a width
   ql widths OP ARG..                      the same at every width, and which widths agree
   ql bitwise OP ARG..                     a bitwise operation on integers of up to 1024 limbs of 32 bits
   ql list WIDTH START END NUMBER CALL..   calls rot:COUNT and rev on one field, and the one rotation they equal
@@ -171,7 +162,7 @@ fn put_command_help(command: u64, out: &mut [u8]) -> usize {
     match command {
         1 => put(
             b"ql fx WIDTH OP ARG..
-One fixnum operation of R6RS at a width from 24 to 62. OP is its name or its code. Booleans are 1 and 0. Where an operation has two
+One fixnum operation of R6RS at a width, which is how many bits a fixnum has. OP is its name or its code. Booleans are 1 and 0. Where an operation has two
 results they stand on two lines. A call outside its domain is refused, with a number from 1 to 6 and the reason.
 ",
             out,
@@ -179,7 +170,7 @@ results they stand on two lines. A call outside its domain is refused, with a nu
         ),
         2 => put(
             b"ql widths OP ARG..
-One fixnum operation at every width from 24 to 62, as R6RS says it and this project settles what R6RS leaves open. A line has
+One fixnum operation at every width that is accepted, as R6RS says it and this project settles what R6RS leaves open. A line has
 the widths with one answer. The exit status is 0 where all widths agree. Whether a Scheme system does what R6RS says is another question:
 docs/HOSTS.md has what some of them do.
 ",
@@ -237,15 +228,15 @@ fn put_either(numbers: &[u8], bits: &[u8], code: u64, out: &mut [u8], at: usize)
 }
 
 // The line of an operation, and its meaning.
-fn put_meaning(table: &[u8], number: u64, code: u64, out: &mut [u8]) -> usize {
-    let at = put_line(table, number, out, 0);
+fn put_meaning(table: Table, number: u64, code: u64, out: &mut [u8]) -> usize {
+    let at = put_entry(table, number, out, 0);
     let at = put(b"\n", out, at);
     let at = put_either(&NUMBER_MEANINGS, &BIT_MEANINGS, code, out, at);
     put(b"\n", out, at)
 }
 
 // `ql fx 24 fxand 12 10`, without the ql, in a buffer of its own.
-fn put_example(command: &[u8], table: &[u8], number: u64, code: u64, out: &mut [u8]) -> usize {
+fn put_example(command: &[u8], table: Table, number: u64, code: u64, out: &mut [u8]) -> usize {
     let at = put(command, out, 0);
     let at = put_name(table, number, out, at);
     let at = put(b" ", out, at);
@@ -264,7 +255,7 @@ fn put_signature(signature: Signature, out: &mut [u8], at: usize) -> usize {
 }
 
 fn put_fixnum_help(code: u64, out: &mut [u8]) -> usize {
-    let at = put_meaning(&FIXNUM, code, code, out);
+    let at = put_meaning(Table::Fixnum, code, code, out);
     let at = put(b"code ", out, at);
     let at = put_natural(code, out, at);
     let at = put(b", ", out, at);
@@ -273,7 +264,7 @@ fn put_fixnum_help(code: u64, out: &mut [u8]) -> usize {
 
 fn put_bitwise_help(index: u64, out: &mut [u8]) -> usize {
     let n = arity(index) as u64;
-    let at = put_meaning(&BITWISE, index, likeness(index), out);
+    let at = put_meaning(Table::Bitwise, index, likeness(index), out);
     let at = put_counts(n, n, out, at);
     if numbers_of(index) == 0 || index == 13 {
         return put(b"\n", out, at);
@@ -297,7 +288,7 @@ fn put_answer(line: &[u8], out: &mut [u8]) -> usize
 // An example and what the command answers to it.
 fn put_tried(
     command: &[u8],
-    table: &[u8],
+    table: Table,
     number: u64,
     code: u64,
     out: &mut [u8],
@@ -318,19 +309,19 @@ fn put_tried(
 
 // What the command or the operation does that a word names.
 pub fn reply_about(line: &[u8], i: usize, out: &mut [u8]) -> Reply {
-    let command = line_of(line, i, &COMMANDS);
+    let command = line_of(line, i, Table::Commands);
     if command != 0 {
         return done(put_command_help(command, out));
     }
-    let code = line_of(line, i, &FIXNUM);
+    let code = line_of(line, i, Table::Fixnum);
     if code != 0 {
         let at = put_fixnum_help(code, out);
-        return done(put_tried(b"fx 24 ", &FIXNUM, code, code, out, at));
+        return done(put_tried(b"fx 24 ", Table::Fixnum, code, code, out, at));
     }
-    let index = line_of(line, i, &BITWISE);
+    let index = line_of(line, i, Table::Bitwise);
     if index != 0 {
         let at = put_bitwise_help(index, out);
-        return done(put_tried(b"bitwise ", &BITWISE, index, likeness(index), out, at));
+        return done(put_tried(b"bitwise ", Table::Bitwise, index, likeness(index), out, at));
     }
     trouble(line, i, Expected::Topic, out)
 }

@@ -1,11 +1,11 @@
 // `ops`: the table of operations.
+use fxtable::table::CODES;
 use fxtable::table::signature_of;
 use limbcalls::rules::arity;
 use line::count;
-use line::names::BITWISE;
-use line::names::FIXNUM;
+use line::names::Table;
+use line::names::put_arguments;
 use line::names::put_name;
-use line::names::put_rest;
 use line::number::line_of;
 use line::refusal::put_span;
 use line::reply::Reply;
@@ -16,8 +16,6 @@ use output::put;
 use output::put_if;
 use output::put_natural;
 
-const FIXNUMS: u64 = 41;
-
 const BITWISES: u64 = 17;
 
 // A number below 100, in two columns.
@@ -27,7 +25,7 @@ fn put_code(code: u64, out: &mut [u8], at: usize) -> usize {
 }
 
 // A name and blanks, in 34 columns.
-fn put_padded_name(table: &[u8], number: u64, out: &mut [u8], at: usize) -> usize {
+fn put_padded_name(table: Table, number: u64, out: &mut [u8], at: usize) -> usize {
     let blanks = *b"                                  ";
     let end = put_name(table, number, out, at);
     if end < at || 34 < end - at {
@@ -38,17 +36,10 @@ fn put_padded_name(table: &[u8], number: u64, out: &mut [u8], at: usize) -> usiz
 }
 
 // The end of a row: how many arguments an operation takes, and which.
-fn put_arguments(
-    table: &[u8],
-    number: u64,
-    least: u64,
-    most: u64,
-    out: &mut [u8],
-    at: usize,
-) -> usize {
+fn put_takes(table: Table, number: u64, least: u64, most: u64, out: &mut [u8], at: usize) -> usize {
     let at = put_span(least, most, out, at);
     let at = put(b":", out, at);
-    let at = put_rest(table, number, out, at);
+    let at = put_arguments(table, number, out, at);
     put(b"\n", out, at)
 }
 
@@ -57,22 +48,29 @@ fn put_fixnum_row(code: u64, out: &mut [u8], at: usize) -> usize {
     let signature = signature_of(code);
     let at = put_code(code, out, at);
     let at = put(b"  ", out, at);
-    let at = put_padded_name(&FIXNUM, code, out, at);
-    put_arguments(&FIXNUM, code, signature.least, signature.most, out, at)
+    let at = put_padded_name(Table::Fixnum, code, out, at);
+    put_takes(
+        Table::Fixnum,
+        code,
+        signature.least,
+        signature.most,
+        out,
+        at,
+    )
 }
 
 // The row of a bitwise operation, which has no code.
 fn put_bitwise_row(index: u64, out: &mut [u8], at: usize) -> usize {
     let n = arity(index) as u64;
     let at = put(b"    ", out, at);
-    let at = put_padded_name(&BITWISE, index, out, at);
-    put_arguments(&BITWISE, index, n, n, out, at)
+    let at = put_padded_name(Table::Bitwise, index, out, at);
+    put_takes(Table::Bitwise, index, n, n, out, at)
 }
 
 fn put_fixnum_rows(out: &mut [u8], at: usize) -> usize {
     let mut filled = at;
     let mut code = 1;
-    while code <= FIXNUMS {
+    while code <= CODES {
         filled = put_fixnum_row(code, out, filled);
         code += 1;
     }
@@ -109,11 +107,11 @@ pub fn reply_ops(line: &[u8], out: &mut [u8]) -> Reply {
     if 2 < words {
         return trouble(line, 3, Expected::End, out);
     }
-    let code = line_of(line, 2, &FIXNUM);
+    let code = line_of(line, 2, Table::Fixnum);
     if code != 0 {
         return done(put_fixnum_row(code, out, 0));
     }
-    let index = line_of(line, 2, &BITWISE);
+    let index = line_of(line, 2, Table::Bitwise);
     if index != 0 {
         return done(put_bitwise_row(index, out, 0));
     }

@@ -9,7 +9,7 @@ use super::rules::put_bitwise_refusal;
 use limbstages::Number;
 use limbstages::Written;
 use line::count_past;
-use line::names::BITWISE;
+use line::names::Table;
 use line::number::line_of;
 use line::number::numbers_between;
 use line::refusal::put_count_rule;
@@ -197,12 +197,12 @@ fn reply_operands(line: &[u8], index: u64, x: &[u32], v: [i64; 4], out: &mut [u8
 fn wrong_count(index: u64, count: usize, out: &mut [u8]) -> Reply {
     let needed = arity(index) as u64;
     let at = put_refused(3, out, 0);
-    let at = put_count_rule(&BITWISE, index, needed, needed, count as u64, out, at);
+    let at = put_count_rule(Table::Bitwise, index, needed, needed, count as u64, out, at);
     refused(put(b"\n", out, at))
 }
 
 pub fn reply_bitwise(line: &[u8], out: &mut [u8]) -> Reply {
-    let index = line_of(line, 2, &BITWISE);
+    let index = line_of(line, 2, Table::Bitwise);
     if index == 0 {
         return trouble(line, 2, Expected::BitwiseOperation, out);
     }

@@ -1,11 +1,21 @@
 // The operations by name, and the one search through a list of names.
 ghost use Prim.Native.Nat.{_≤_};
 ghost use lib.ListN.{length};
+use bytes::scan;
 use check::same;
 use output::put;
 
+// The commands.
+const COMMANDS: [u8; 37] = *b"fx
+widths
+bitwise
+list
+ops
+help
+batch";
+
 // The fixnum operations in the order of their codes: a line has a name and its arguments.
-pub const FIXNUM: [u8; 660] = *b"fx=? x y ..
+const FIXNUM: [u8; 660] = *b"fx=? x y ..
 fx>? x y ..
 fx<? x y ..
 fx>=? x y ..
@@ -48,7 +58,7 @@ fxrotate-bit-field x start end count
 fxreverse-bit-field x start end";
 
 // The bitwise operations have no codes: here they are counted from 1, in R6RS's order.
-pub const BITWISE: [u8; 466] = *b"bitwise-not x
+const BITWISE: [u8; 466] = *b"bitwise-not x
 bitwise-and x y
 bitwise-ior x y
 bitwise-xor x y
@@ -66,51 +76,36 @@ bitwise-arithmetic-shift-right x distance
 bitwise-rotate-bit-field x start end count
 bitwise-reverse-bit-field x start end";
 
-// How many bytes of a text stand before the first that is `end`: all where none is.
-fn count_before(text: &[u8], end: u8) -> usize
-    ensures { λ r. ⌜ r ≤ length (now (text .entry)) ⌝ }
-{
-    let mut i = 0;
-    while i < text.len() {
-        if text[i] == end {
-            return i;
-        }
-        i += 1;
-    }
-    i
-}
-
 // A line of a table, counted from 1: where it begins, where its name ends and where it ends. Line 0 where there is none.
-pub struct Line {
-    pub number: u64,
-    pub start: usize,
-    pub name_end: usize,
-    pub end: usize,
+struct Line {
+    number: u64,
+    start: usize,
+    name_end: usize,
+    end: usize,
 }
 
 // The first line that has a number, or a word for its name.
-pub fn find(table: &[u8], number: u64, word: &[u8]) -> Line
+fn find(table: &[u8], number: u64, word: &[u8]) -> Line
     ensures { λ r. ⌜ (r .start ≤ r .«name_end») × (r .«name_end» ≤ r .end) ⌝ }
     ensures { λ r. ⌜ r .end ≤ length (now (table .entry)) ⌝ }
 {
     let mut passed = 0;
     let mut start = 0;
     while start < table.len() {
-        let rest = &table[start..];
-        let n = count_before(rest, b'\n');
-        let name = count_before(&rest[..n], b' ');
-        if passed + 1 == number || same(word, &rest[..name]) {
+        let end = scan::find(table, start, table.len(), b'\n');
+        let name_end = scan::find(table, start, end, b' ');
+        if passed + 1 == number || same(word, &table[start..name_end]) {
             return Line {
                 number: passed + 1,
                 start,
-                name_end: start + name,
-                end: start + n,
+                name_end,
+                end,
             };
         }
-        if rest.len() <= n {
+        if table.len() <= end {
             break;
         }
-        start = start + n + 1;
+        start = end + 1;
         passed += 1;
     }
     Line {
@@ -121,31 +116,63 @@ pub fn find(table: &[u8], number: u64, word: &[u8]) -> Line
     }
 }
 
-// The code of the fixnum operation with a name, or 0.
-pub fn fixnum_code(name: &[u8]) -> u64 {
-    find(&FIXNUM, 0, name).number
+// The list that a name is looked up in.
+pub enum Table {
+    Commands,
+    Fixnum,
+    Bitwise,
 }
 
-// The name in a line.
-pub fn put_name(table: &[u8], number: u64, out: &mut [u8], at: usize) -> usize {
-    let line = find(table, number, b"");
+// The number of a name in its list, or 0.
+pub fn number_of(table: Table, name: &[u8]) -> u64 {
+    match table {
+        Table::Commands => find(&COMMANDS, 0, name).number,
+        Table::Fixnum => find(&FIXNUM, 0, name).number,
+        Table::Bitwise => find(&BITWISE, 0, name).number,
+    }
+}
+
+// A part of a line: the name, what follows it with the blank in front, or all.
+enum Part {
+    Name,
+    Rest,
+    Whole,
+}
+
+fn put_part(lines: &[u8], number: u64, part: Part, out: &mut [u8], at: usize) -> usize {
+    let line = find(lines, number, b"");
     let start = line.start;
-    let end = line.name_end;
-    put(&table[start..end], out, at)
+    let name_end = line.name_end;
+    let end = line.end;
+    match part {
+        Part::Name => put(&lines[start..name_end], out, at),
+        Part::Rest => put(&lines[name_end..end], out, at),
+        Part::Whole => put(&lines[start..end], out, at),
+    }
 }
 
-// What follows the name in a line, with the blank in front.
-pub fn put_rest(table: &[u8], number: u64, out: &mut [u8], at: usize) -> usize {
-    let line = find(table, number, b"");
-    let start = line.name_end;
-    let end = line.end;
-    put(&table[start..end], out, at)
+fn put_of(table: Table, number: u64, part: Part, out: &mut [u8], at: usize) -> usize {
+    match table {
+        Table::Commands => put_part(&COMMANDS, number, part, out, at),
+        Table::Fixnum => put_part(&FIXNUM, number, part, out, at),
+        Table::Bitwise => put_part(&BITWISE, number, part, out, at),
+    }
 }
 
-// A whole line.
-pub fn put_line(table: &[u8], number: u64, out: &mut [u8], at: usize) -> usize {
-    let line = find(table, number, b"");
-    let start = line.start;
-    let end = line.end;
-    put(&table[start..end], out, at)
+pub fn put_name(table: Table, number: u64, out: &mut [u8], at: usize) -> usize {
+    put_of(table, number, Part::Name, out, at)
+}
+
+// What follows the name, with the blank in front.
+pub fn put_arguments(table: Table, number: u64, out: &mut [u8], at: usize) -> usize {
+    put_of(table, number, Part::Rest, out, at)
+}
+
+pub fn put_entry(table: Table, number: u64, out: &mut [u8], at: usize) -> usize {
+    put_of(table, number, Part::Whole, out, at)
+}
+
+// A line of a text.
+pub fn put_line(lines: &[u8], number: u64, out: &mut [u8], at: usize) -> usize {
+    put_part(lines, number, Part::Whole, out, at)
 }

@@ -1,6 +1,6 @@
 // The numbers that words are.
-use super::names::FIXNUM;
-use super::names::find;
+use super::names::Table;
+use super::names::number_of;
 use super::trouble::Expected;
 use super::word;
 use text::Reading;
@@ -28,35 +28,34 @@ pub enum Natural {
     Bad(Expected),
 }
 
-pub fn width(line: &[u8], i: usize) -> Natural {
+fn read_natural(line: &[u8], i: usize, expected: Expected) -> Natural {
     if let Given::Number(value) = number(line, i) {
         if 0 <= value {
             return Natural::Number(absolute(value));
         }
     }
-    Natural::Bad(Expected::Width)
+    Natural::Bad(expected)
 }
 
-// The line of a table that has a word for its name, or 0.
-pub fn line_of(line: &[u8], i: usize, table: &[u8]) -> u64 {
+pub fn width(line: &[u8], i: usize) -> Natural {
+    read_natural(line, i, Expected::Width)
+}
+
+// The number of a word in a list of names, or 0.
+pub fn line_of(line: &[u8], i: usize, table: Table) -> u64 {
     let word = word(line, i);
     let start = word.start;
     let end = word.end;
-    find(table, 0, &line[start..end]).number
+    number_of(table, &line[start..end])
 }
 
 // The code of the fixnum operation that a word names or is.
 pub fn operation(line: &[u8], i: usize) -> Natural {
-    let code = line_of(line, i, &FIXNUM);
+    let code = line_of(line, i, Table::Fixnum);
     if code != 0 {
         return Natural::Number(code);
     }
-    if let Given::Number(value) = number(line, i) {
-        if 0 <= value {
-            return Natural::Number(absolute(value));
-        }
-    }
-    Natural::Bad(Expected::FixnumOperation)
+    read_natural(line, i, Expected::FixnumOperation)
 }
 
 // The numbers of words. `bad` is the first word that is none, or 0.

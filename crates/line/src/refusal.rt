@@ -1,4 +1,5 @@
 // What is said of a refused call, of either kind.
+use super::names::Table;
 use super::names::put_name;
 use output::put;
 use output::put_decimal;
@@ -26,7 +27,7 @@ pub fn put_counts(least: u64, most: u64, out: &mut [u8], at: usize) -> usize {
 
 // `fxnot takes 1 argument, not 2`
 pub fn put_count_rule(
-    table: &[u8],
+    table: Table,
     number: u64,
     least: u64,
     most: u64,

@@ -1,5 +1,8 @@
 // What is said of a word that cannot be read.
+use super::refusal::put_span;
 use super::word;
+use fxtable::width::LARGEST_WIDTH;
+use fxtable::width::LEAST_WIDTH;
 use output::put;
 use output::put_if;
 use output::put_natural;
@@ -29,7 +32,10 @@ fn put_expected(expected: Expected, out: &mut [u8], at: usize) -> usize {
         ),
         Expected::Number => put(b"a number, such as 31, -0x1f, #x1f or #b11111,", out, at),
         Expected::NumberOfOneWord => put(b"a number from -2^63 to 2^63 - 1", out, at),
-        Expected::Width => put(b"a width from 24 to 62", out, at),
+        Expected::Width => {
+            let at = put(b"a width from ", out, at);
+            put_span(LEAST_WIDTH, LARGEST_WIDTH, out, at)
+        }
         Expected::FixnumOperation => put(
             b"an operation, such as fxand or 26 (ql ops lists them),",
             out,

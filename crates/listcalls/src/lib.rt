@@ -5,7 +5,8 @@ use fxcalls::request::Request;
 use fxcalls::request::answer;
 use line::count;
 use line::is_word;
-use line::names::fixnum_code;
+use line::names::Table;
+use line::names::number_of;
 use line::number::Natural;
 use line::number::numbers_between;
 use line::number::width;
@@ -93,9 +94,9 @@ fn call_of(line: &[u8], i: usize) -> Call {
 // A call on the field of a number. A reversal takes no count.
 fn request_of(field: Field, x: i64, call: Call) -> Request {
     let code = if call.reverse {
-        fixnum_code(b"fxreverse-bit-field")
+        number_of(Table::Fixnum, b"fxreverse-bit-field")
     } else {
-        fixnum_code(b"fxrotate-bit-field")
+        number_of(Table::Fixnum, b"fxrotate-bit-field")
     };
     Request {
         bad: 0,

@@ -1,5 +1,6 @@
 // The command `ql`: what the words of the command line ask is answered on standard output, or on standard error where a word cannot be
 // read, by one write.
+ghost use Prim.Native.Nat.{_≤_};
 use batch::run_batch;
 use batch::write::write_reply;
 use command::is_batch;
@@ -36,9 +37,8 @@ fn take_words(line: &mut [u8]) -> usize {
     at
 }
 
-// Answers the command line, and gives the exit status.
-#[no_mangle]
-pub extern "C" fn ql_command() -> u64 {
+// Answers the command line, and gives its status.
+fn answer_words() -> u64 {
     let mut line = io::large_buffer();
     let mut out = io::large_buffer();
     let at = take_words(&mut line);
@@ -55,4 +55,13 @@ pub extern "C" fn ql_command() -> u64 {
     let reply = reply_words(&line[..n], &mut out);
     let k = put(b"", &mut out, reply.filled);
     write_reply(reply.status, &out[..k])
+}
+
+// The command: 0 for done, 1 for refused or widths that differ, 2 for trouble.
+#[no_mangle]
+pub extern "C" fn ql_command() -> u64
+    ensures { λ r. ⌜ r ≤ 2 ⌝ }
+{
+    let status = answer_words();
+    if status < TROUBLE { status } else { TROUBLE }
 }
