@@ -162,8 +162,9 @@ fn put_command_help(command: u64, out: &mut [u8]) -> usize {
     match command {
         1 => put(
             b"ql fx WIDTH OP ARG..
-One fixnum operation of R6RS at a width, which is how many bits a fixnum has. OP is its name or its code. Booleans are 1 and 0. Where an operation has two
-results they stand on two lines. A call outside its domain is refused, with a number from 1 to 6 and the reason.
+One fixnum operation of R6RS at a width, which is how many bits a fixnum has. OP is its name or its code. Booleans are 1 and 0.
+Where an operation has two results they stand on two lines. A call outside its domain is refused, with a number from 1 to 6 and
+the reason.
 ",
             out,
             0,
