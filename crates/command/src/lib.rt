@@ -1,21 +1,24 @@
 // What the command `ql` answers to a line of words, as text and an exit status.
+mod about;
+mod ops;
+
+use about::reply_about;
+use about::reply_help;
 use fxcalls::fx::reply_fx;
+use fxcalls::list::reply_list;
 use fxcalls::widths::reply_widths;
-use help::ops::reply_ops;
-use help::put_usage;
-use help::reply_about;
-use help::reply_help;
 use limbcalls::bitwise::reply_bitwise;
 use line::count;
 use line::is_word;
-use line::names::Table;
 use line::number::line_of;
 use line::reply::Reply;
 use line::reply::TROUBLE;
 use line::reply::done;
 use line::reply::trouble;
 use line::trouble::Expected;
-use listcalls::reply_list;
+use manual::put_usage;
+use names::Table;
+use ops::reply_ops;
 use output::put;
 
 const VERSION: [u8; 19] = *b"ql (quebralua) 0.2\n";

@@ -1,5 +1,7 @@
 // The operations, by code.
 ghost use mathlib.Core.Path.{_≡_};
+ghost use mathlib.Core.Bool.{false};
+ghost use Rattle.fxtable.specs.declared.domains.Domain.the-variants.{Fixnum};
 ghost use Rattle.fxtable.specs.Operations.{hasTwo};
 ghost use Rattle.fxtable.specs.Table.{isCode, rowOf, signatureFrom, signatureOf};
 ghost use Rattle.fxtable.specs.Calls.{isCount};
@@ -45,27 +47,34 @@ fn row(
     }
 }
 
+// A row whose arguments may be any fixnums, with one result.
+fn plain(least: u64, most: u64) -> Signature
+    ensures { λ r. ⌜ r ≡ signatureFrom least most Fixnum Fixnum Fixnum false ⌝ }
+{
+    row(least, most, D::Fixnum, D::Fixnum, D::Fixnum, false)
+}
+
 // The table of document 01. For a number that is no code: a row that allows no count. Constants in each arm: the compiler makes
 // tables of them.
 pub fn signature_of(code: u64) -> Signature
     ensures { λ r. ⌜ r ≡ signatureOf code ⌝ }
 {
     match code {
-        1 => row(2, 4, D::Fixnum, D::Fixnum, D::Fixnum, false), // fx=?
-        2 => row(2, 4, D::Fixnum, D::Fixnum, D::Fixnum, false), // fx>?
-        3 => row(2, 4, D::Fixnum, D::Fixnum, D::Fixnum, false), // fx<?
-        4 => row(2, 4, D::Fixnum, D::Fixnum, D::Fixnum, false), // fx>=?
-        5 => row(2, 4, D::Fixnum, D::Fixnum, D::Fixnum, false), // fx<=?
-        6 => row(1, 1, D::Fixnum, D::Fixnum, D::Fixnum, false), // fxzero?
-        7 => row(1, 1, D::Fixnum, D::Fixnum, D::Fixnum, false), // fxpositive?
-        8 => row(1, 1, D::Fixnum, D::Fixnum, D::Fixnum, false), // fxnegative?
-        9 => row(1, 1, D::Fixnum, D::Fixnum, D::Fixnum, false), // fxodd?
-        10 => row(1, 1, D::Fixnum, D::Fixnum, D::Fixnum, false), // fxeven?
-        11 => row(1, 4, D::Fixnum, D::Fixnum, D::Fixnum, false), // fxmax
-        12 => row(1, 4, D::Fixnum, D::Fixnum, D::Fixnum, false), // fxmin
-        13 => row(2, 2, D::Fixnum, D::Fixnum, D::Fixnum, false), // fx+
-        14 => row(2, 2, D::Fixnum, D::Fixnum, D::Fixnum, false), // fx*
-        15 => row(1, 2, D::Fixnum, D::Fixnum, D::Fixnum, false), // fx-
+        1 => plain(2, 4), // fx=?
+        2 => plain(2, 4), // fx>?
+        3 => plain(2, 4), // fx<?
+        4 => plain(2, 4), // fx>=?
+        5 => plain(2, 4), // fx<=?
+        6 => plain(1, 1), // fxzero?
+        7 => plain(1, 1), // fxpositive?
+        8 => plain(1, 1), // fxnegative?
+        9 => plain(1, 1), // fxodd?
+        10 => plain(1, 1), // fxeven?
+        11 => plain(1, 4), // fxmax
+        12 => plain(1, 4), // fxmin
+        13 => plain(2, 2), // fx+
+        14 => plain(2, 2), // fx*
+        15 => plain(1, 2), // fx-
         16 => row(2, 2, D::Divisor, D::Fixnum, D::Fixnum, false), // fxdiv
         17 => row(2, 2, D::Divisor, D::Fixnum, D::Fixnum, false), // fxmod
         18 => row(2, 2, D::Divisor, D::Fixnum, D::Fixnum, true), // fxdiv-and-mod
@@ -75,14 +84,14 @@ pub fn signature_of(code: u64) -> Signature
         22 => row(3, 3, D::Fixnum, D::Fixnum, D::Fixnum, true), // fx+/carry
         23 => row(3, 3, D::Fixnum, D::Fixnum, D::Fixnum, true), // fx-/carry
         24 => row(3, 3, D::Fixnum, D::Fixnum, D::Fixnum, true), // fx*/carry
-        25 => row(1, 1, D::Fixnum, D::Fixnum, D::Fixnum, false), // fxnot
-        26 => row(0, 4, D::Fixnum, D::Fixnum, D::Fixnum, false), // fxand
-        27 => row(0, 4, D::Fixnum, D::Fixnum, D::Fixnum, false), // fxior
-        28 => row(0, 4, D::Fixnum, D::Fixnum, D::Fixnum, false), // fxxor
-        29 => row(3, 3, D::Fixnum, D::Fixnum, D::Fixnum, false), // fxif
-        30 => row(1, 1, D::Fixnum, D::Fixnum, D::Fixnum, false), // fxbit-count
-        31 => row(1, 1, D::Fixnum, D::Fixnum, D::Fixnum, false), // fxlength
-        32 => row(1, 1, D::Fixnum, D::Fixnum, D::Fixnum, false), // fxfirst-bit-set
+        25 => plain(1, 1), // fxnot
+        26 => plain(0, 4), // fxand
+        27 => plain(0, 4), // fxior
+        28 => plain(0, 4), // fxxor
+        29 => plain(3, 3), // fxif
+        30 => plain(1, 1), // fxbit-count
+        31 => plain(1, 1), // fxlength
+        32 => plain(1, 1), // fxfirst-bit-set
         33 => row(2, 2, D::Position, D::Fixnum, D::Fixnum, false), // fxbit-set?
         34 => row(3, 3, D::Position, D::NewBit, D::Fixnum, false), // fxcopy-bit
         35 => row(3, 3, D::Position, D::FieldEnd, D::Fixnum, false), // fxbit-field
@@ -92,7 +101,7 @@ pub fn signature_of(code: u64) -> Signature
         39 => row(2, 2, D::Distance, D::Fixnum, D::Fixnum, false), // fxarithmetic-shift-right
         40 => row(4, 4, D::Position, D::FieldEnd, D::Rotation, false), // fxrotate-bit-field
         41 => row(3, 3, D::Position, D::FieldEnd, D::Fixnum, false), // fxreverse-bit-field
-        _ => row(1, 0, D::Fixnum, D::Fixnum, D::Fixnum, false),
+        _ => plain(1, 0),
     }
 }
 

@@ -14,6 +14,7 @@ use limbcount::count::bit_count;
 use limbcount::count::bit_length;
 use limbcount::count::first_bit_set;
 use limbmeasure::shortest_length;
+use limbsegments::index::max;
 use limbstages::Number;
 use limbstages::Written;
 use limbstages::answer::done;
@@ -40,7 +41,6 @@ use limbwords::result::Logic;
 use limbwords::result::Operation;
 use limbwords::signed::word;
 use limbwords::signed::word_bits;
-use limbwrite::index::max;
 use words::sign::absolute;
 
 // and, ior and xor of two operands, and not of the first.

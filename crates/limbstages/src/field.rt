@@ -12,8 +12,8 @@ ghost use Rattle.limbstages.specs.Buffer.{Writes};
 ghost use Rattle.limbstages.specs.Stages.{isOperand};
 use super::Written;
 use super::run::run;
+use limbsegments::index::max;
 use limbwords::result::Operation;
-use limbwrite::index::max;
 
 // How many limbs are enough for an operand with a field up to `end`.
 fn enough_for(x: &[u32], end: u64) -> usize

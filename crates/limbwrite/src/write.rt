@@ -9,13 +9,13 @@ ghost use Rattle.limbwords.specs.Value.{value};
 ghost use Rattle.limbwords.specs.Results.{limbAt, meaning, Proper};
 ghost use Rattle.outcomes.specs.Puts.{Puts};
 ghost use Rattle.limbwrite.specs.Inner.{Moved};
-use super::index::first_past;
-use super::index::saturating_sub;
-use super::logical::write_if;
-use super::logical::write_logical;
-use super::segment::put_limbs;
-use super::segment::put_windows;
-use super::segment::put_zeros;
+use limbsegments::index::first_past;
+use limbsegments::index::saturating_sub;
+use limbsegments::logical::write_if;
+use limbsegments::logical::write_logical;
+use limbsegments::segment::put_limbs;
+use limbsegments::segment::put_windows;
+use limbsegments::segment::put_zeros;
 use limbwords::field::reverse_limb;
 use limbwords::result::Operation;
 
@@ -57,6 +57,27 @@ fn put_piece(
     stop
 }
 
+// The last piece, which is of x, and what is left after it limb by limb.
+fn put_last(
+    operation: Operation,
+    x: &[u32],
+    y: &[u32],
+    piece: Piece,
+    from: usize,
+    n: usize,
+    part: &mut [u32],
+)
+    requires { ⌜ (0 < length (now x)) × (0 < length (now y)) ⌝ }
+    requires { ⌜ Proper operation ⌝ }
+    requires { ⌜ Moved (meaning operation (value (now x)) (value (now y)) (value (now x))) (value (now x)) (piece .from) (piece .to) (piece .up) (piece .down) ⌝ }
+    requires { ⌜ (piece .from < 2 ^ 33) × (piece .up < 2 ^ 33) ⌝ }
+    requires { ⌜ (from ≤ n) × ((n ≤ length (now part)) × (n < 2 ^ 32)) ⌝ }
+    ensures { λ r. ⌜ Puts 0 (limbAt (meaning operation (value (now (x .entry))) (value (now (y .entry))) (value (now (x .entry))))) (now (part .entry)) (now (part .exit)) from n ⌝ }
+{
+    let rest = put_piece(operation, x, y, x, piece, from, n, part);
+    put_limbs(operation, x, y, x, rest, n, part);
+}
+
 fn write_shift_left(x: &[u32], by: u64, n: usize, part: &mut [u32])
     requires { ⌜ (0 < length (now x)) × (by < 2 ^ 32) ⌝ }
     requires { ⌜ (n ≤ length (now part)) × (n < 2 ^ 32) ⌝ }
@@ -71,8 +92,7 @@ fn write_shift_left(x: &[u32], by: u64, n: usize, part: &mut [u32])
         up: 0,
         down: by,
     };
-    let rest = put_piece(operation, x, x, x, above, low, n, part);
-    put_limbs(operation, x, x, x, rest, n, part);
+    put_last(operation, x, x, above, low, n, part);
 }
 
 // The first n limbs of x as they are.
@@ -105,8 +125,7 @@ fn write_field(x: &[u32], start: u64, end: u64, n: usize, part: &mut [u32])
         up: start,
         down: 0,
     };
-    let rest = put_piece(operation, x, x, x, whole, 0, n, part);
-    put_limbs(operation, x, x, x, rest, n, part);
+    put_last(operation, x, x, whole, 0, n, part);
 }
 
 // Each bit of the result, from which operand and which bit of it; for the field from 2 to 8:
@@ -145,8 +164,7 @@ fn write_copy_field(x: &[u32], y: &[u32], start: u64, end: u64, n: usize, part: 
     };
     let low = put_piece(operation, x, y, x, below, 0, n, part);
     let top = put_piece(operation, x, y, y, inside, low, n, part);
-    let rest = put_piece(operation, x, y, x, above, top, n, part);
-    put_limbs(operation, x, y, x, rest, n, part);
+    put_last(operation, x, y, above, top, n, part);
 }
 
 // The upper bits of the field come to its low end, and the others move up. Each bit of the result, by the bit of x that it is; for the
@@ -194,8 +212,7 @@ fn write_rotate(x: &[u32], start: u64, end: u64, by: u64, n: usize, part: &mut [
     let low = put_piece(operation, x, x, x, below, 0, n, part);
     let between = put_piece(operation, x, x, x, upper, low, n, part);
     let top = put_piece(operation, x, x, x, others, between, n, part);
-    let rest = put_piece(operation, x, x, x, above, top, n, part);
-    put_limbs(operation, x, x, x, rest, n, part);
+    put_last(operation, x, x, above, top, n, part);
 }
 
 fn write_reverse(x: &[u32], start: u64, end: u64, n: usize, part: &mut [u32])

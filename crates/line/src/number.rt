@@ -1,8 +1,8 @@
 // The numbers that words are.
-use super::names::Table;
-use super::names::number_of;
 use super::trouble::Expected;
 use super::word;
+use names::Table;
+use names::number_of;
 use text::Reading;
 use words::sign::absolute;
 

@@ -1,6 +1,6 @@
 // What is said of a refused call, of either kind.
-use super::names::Table;
-use super::names::put_name;
+use names::Table;
+use names::put_name;
 use output::put;
 use output::put_decimal;
 use output::put_if;

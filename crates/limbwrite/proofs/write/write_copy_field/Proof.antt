@@ -20,23 +20,18 @@ put-piece-requires-2 c κs =
     let p = c .before .before .before .before .before .before .before .before .pre in
     ((p .0 .0, (p .0 .1, p .0 .1)), (p .1 .0, (moved-copy _ _ _ _, ((omega arith, omega arith), omega arith))))
 
-put-piece-requires-3 : tie.Need-put-piece-requires-3
+put-last-requires : tie.Need-put-last-requires
 unfolding meaning Proper copyBitField
-put-piece-requires-3 c κs =
+put-last-requires c κs =
     let p = c .before .before .before .before .before .before .before .before .before .before .before .before .pre in
-    ((p .0 .0, (p .0 .1, p .0 .0)), (p .1 .0, (moved-above _ _ _ _ _, ((omega arith, omega arith), omega arith))))
-
-put-limbs-requires : tie.Need-put-limbs-requires
-unfolding Proper
-put-limbs-requires c κs = omega arith
+    (p .0, (p .1 .0, (moved-above _ _ _ _ _, ((omega arith, omega arith), omega arith))))
 
 returns : tie.Need-returns
 unfolding meaning
 returns c =
-    let a = c .before .before .before .before .before .before .before .before .before .before .before .before .before .before .put-piece .ensures in
-    let b = c .before .before .before .before .before .before .before .before .before .before .put-piece2 .ensures in
-    let d = c .before .before .before .before .before .before .put-piece3 .ensures in
-    puts-join (a .1) (puts-join (b .1) (puts-join (d .1) (c .before .before .put-limbs .ensures) (d .0 .0) (d .0 .1)) (b .0 .0) (b .0 .1)) (a .0 .0) (a .0 .1)
+    let a = c .before .before .before .before .before .before .before .before .before .before .put-piece .ensures in
+    let b = c .before .before .before .before .before .before .put-piece2 .ensures in
+    puts-join (a .1) (puts-join (b .1) (c .before .before .put-last .ensures) (b .0 .0) (b .0 .1)) (a .0 .0) (a .0 .1)
 
 pub write-copy-field-spec : {M : Type 1} → statement M
 write-copy-field-spec =
@@ -44,7 +39,6 @@ write-copy-field-spec =
     (tie.spec
     put-piece-requires
     put-piece-requires-2
-    put-piece-requires-3
-    put-limbs-requires
+    put-last-requires
     (λ c. search needs)
     returns)

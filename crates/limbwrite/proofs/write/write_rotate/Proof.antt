@@ -26,27 +26,19 @@ put-piece-requires-3 c κs =
     let p = c .before .before .before .before .before .before .before .before .before .before .before .pre in
     ((p .0, (p .0, p .0)), ((p .1 .0, p .1 .1 .0), (moved-others _ _ _ _ (p .1 .0 .0) (p .1 .1 .0), ((omega arith, omega arith), omega arith))))
 
-put-piece-requires-4 : tie.Need-put-piece-requires-4
+put-last-requires : tie.Need-put-last-requires
 unfolding meaning Proper rotateBitField permuteField
-put-piece-requires-4 c κs =
+put-last-requires c κs =
     let p = c .before .before .before .before .before .before .before .before .before .before .before .before .before .before .before .pre in
-    ((p .0, (p .0, p .0)), ((p .1 .0, p .1 .1 .0), (moved-above _ _ _ _ _, ((omega arith, omega arith), omega arith))))
-
-put-limbs-requires : tie.Need-put-limbs-requires
-unfolding Proper
-put-limbs-requires c κs =
-    let p = c .before .before .before .before .before .before .before .before .before .before .before .before .before .before .before .before .before .before .before .pre in
-    ((p .0, (p .0, p .0)), ((p .1 .0, p .1 .1 .0), omega arith))
+    ((p .0, p .0), ((p .1 .0, p .1 .1 .0), (moved-above _ _ _ _ _, ((omega arith, omega arith), omega arith))))
 
 returns : tie.Need-returns
 unfolding meaning
 returns c =
-    let a = c .before .before .before .before .before .before .before .before .before .before .before .before .before .before .before .before .before .before .put-piece .ensures in
-    let b = c .before .before .before .before .before .before .before .before .before .before .before .before .before .before .put-piece2 .ensures in
-    let d = c .before .before .before .before .before .before .before .before .before .before .put-piece3 .ensures in
-    let e = c .before .before .before .before .before .before .put-piece4 .ensures in
-    let last = puts-join (e .1) (c .before .before .put-limbs .ensures) (e .0 .0) (e .0 .1) in
-    puts-join (a .1) (puts-join (b .1) (puts-join (d .1) last (d .0 .0) (d .0 .1)) (b .0 .0) (b .0 .1)) (a .0 .0) (a .0 .1)
+    let a = c .before .before .before .before .before .before .before .before .before .before .before .before .before .before .put-piece .ensures in
+    let b = c .before .before .before .before .before .before .before .before .before .before .put-piece2 .ensures in
+    let d = c .before .before .before .before .before .before .put-piece3 .ensures in
+    puts-join (a .1) (puts-join (b .1) (puts-join (d .1) (c .before .before .put-last .ensures) (d .0 .0) (d .0 .1)) (b .0 .0) (b .0 .1)) (a .0 .0) (a .0 .1)
 
 pub write-rotate-spec : {M : Type 1} → statement M
 write-rotate-spec =
@@ -57,7 +49,6 @@ write-rotate-spec =
     put-piece-requires
     put-piece-requires-2
     put-piece-requires-3
-    put-piece-requires-4
-    put-limbs-requires
+    put-last-requires
     (λ c. search needs)
     returns)

@@ -7,24 +7,18 @@ use borrow.Author.Needs.{needs}
 use Rattle.limbwrite.proofs.write.write_shift_left.Statement.{statement}
 use Rattle.limbwrite.proofs.write.write_shift_left.Tie as tie
 
-put-piece-requires : tie.Need-put-piece-requires
+put-last-requires : tie.Need-put-last-requires
 unfolding meaning Proper
-put-piece-requires c κs =
+put-last-requires c κs =
     let p = c .before .before .before .before .before .before .before .before .pre in
     let l = c .before .before .before .before .before .first-past .ensures in
-    ((p .0 .0, (p .0 .0, p .0 .0)), (p .0 .1, (moved-left _ _ _, ((omega arith, omega arith), (l .high, omega arith)))))
-
-put-limbs-requires : tie.Need-put-limbs-requires
-unfolding Proper
-put-limbs-requires c κs = omega arith
+    ((p .0 .0, p .0 .0), (p .0 .1, (moved-left _ _ _, ((omega arith, omega arith), (l .high, omega arith)))))
 
 returns : tie.Need-returns
 unfolding meaning
 returns c =
-    let p = c .before .before .before .before .before .before .before .before .before .before .before .before .first-past .ensures in
-    let l = c .before .before .before .before .before .before .put-piece .ensures in
-    puts-join (puts-as (zero-limb _ p) (c .before .before .before .before .before .before .before .before .before .before .put-zeros .ensures)) (puts-join (l .1) (c .before .before .put-limbs .ensures) (l .0 .0) (l .0 .1))
-    (p .low) (p .high)
+    let p = c .before .before .before .before .before .before .before .before .first-past .ensures in
+    puts-join (puts-as (zero-limb _ p) (c .before .before .before .before .before .before .put-zeros .ensures)) (c .before .before .put-last .ensures) (p .low) (p .high)
 
 pub write-shift-left-spec : {M : Type 1} → statement M
 write-shift-left-spec =
@@ -32,7 +26,6 @@ write-shift-left-spec =
     (tie.spec
     (λ c κs. search needs)
     (λ c κs. search needs)
-    put-piece-requires
-    put-limbs-requires
+    put-last-requires
     (λ c. search needs)
     returns)

@@ -1,0 +1,241 @@
+// The long texts of `help`: what the command, each of its commands and each operation do, and an example of each operation.
+use names::put_line;
+use output::put;
+
+// What the fixnum operations on numbers are, codes 1 to 24.
+fn number_meanings() -> [u8; 1060] {
+    *b"whether each argument equals the next
+whether each argument is greater than the next
+whether each argument is less than the next
+whether each argument is at least the next
+whether each argument is at most the next
+whether x is 0
+whether x is greater than 0
+whether x is less than 0
+whether x is odd
+whether x is even
+the greatest argument
+the least argument
+x + y
+x * y
+x - y, or -x
+the quotient of x by y that leaves a remainder from 0 to |y| - 1
+the remainder of x by y that is from 0 to |y| - 1
+the quotient and the remainder, which is from 0 to |y| - 1
+the quotient of x by y that leaves a remainder from -|y|/2 up to, but not at, |y|/2
+the remainder of x by y that is from -|y|/2 up to, but not at, |y|/2
+the quotient and the remainder, which is from -|y|/2 up to, but not at, |y|/2
+x + y + z in two parts: what a fixnum holds of it, and the carry, which counts for 2^width
+x - y - z in two parts: what a fixnum holds of it, and the carry, which counts for 2^width
+x * y + z in two parts: what a fixnum holds of it, and the carry, which counts for 2^width"
+}
+
+// What the operations on bits are: codes 25 to 41, and the 17 bitwise operations in the same order.
+fn bit_meanings() -> [u8; 842] {
+    *b"each bit of x turned over: -1 - x
+the bits that are 1 in every argument
+the bits that are 1 in some argument
+the bits that are 1 in an odd number of arguments
+the bits of y where x has a 1, and those of z where it has a 0
+how many bits of x are 1; of a negative x, -1 less how many are 0
+how many bits x has without its sign
+the position of the lowest bit of x that is 1, or -1 where there is none
+whether the bit of x at a position is 1
+x with the bit at a position replaced
+the bits of x from start up to, but not at, end, as a number
+x with its bits from start up to, but not at, end replaced by the lowest of y
+x * 2^distance, rounded down
+x * 2^distance
+x / 2^distance, rounded down
+x with its bits from start up to, but not at, end rotated by count towards the high end
+x with its bits from start up to, but not at, end in reverse order"
+}
+
+// Arguments for each that make a short example.
+fn number_samples() -> [u8; 145] {
+    *b"3 3 3
+3 2 1
+1 2 3
+3 3 1
+1 3 3
+0
+5
+-5
+5
+6
+3 -7 5
+3 -7 5
+40 2
+6 7
+50 8
+-7 2
+-7 2
+-7 2
+-7 4
+-7 4
+-7 4
+0x7fffff 1 0
+-0x800000 1 0
+0x7fffff 0x7fffff 1"
+}
+
+// The same for the operations on bits.
+fn bit_samples() -> [u8; 117] {
+    *b"5
+12 10
+12 10
+12 10
+12 10 3
+-8
+255
+40
+5 2
+5 1 1
+0x1234 4 12
+0x1234 4 12 0xff
+-5 -1
+5 4
+-5 1
+0x1234 4 12 3
+0x1234 4 12"
+}
+
+// A long text is put in parts, which are proved in less time than the whole.
+pub fn put_usage(out: &mut [u8]) -> usize {
+    let at = put(
+        b"ql: the fixnum and bitwise operations of R6RS, proved
+
+  ql fx WIDTH OP ARG..                    a fixnum operation at a width
+  ql widths OP ARG..                      the same at every width, and which widths agree
+  ql bitwise OP ARG..                     a bitwise operation on integers of up to 1024 limbs of 32 bits
+  ql list WIDTH START END NUMBER CALL..   calls rot:COUNT and rev on one field, and the one rotation they equal
+  ql batch                                calls of fx and bitwise, a line each, from standard input
+  ql ops [OP]                             the operations: codes, names, arguments
+  ql help [WORD]                          this, or what a command or an operation does
+  ql --version
+",
+        out,
+        0,
+    );
+    let at = put(
+        b"
+OP is a name of R6RS, or the code of a fixnum operation. A number is written in decimal, or in hexadecimal after 0x or #x,
+in binary after 0b or #b, in octal after #o. A result is printed in decimal and in hexadecimal, or as 'refused' with a
+number and the reason. The exit status is 0 where a call is done and 1 where it is refused, or where widths differ; it is
+2 where a word cannot be read or an answer cannot be written.
+",
+        out,
+        at,
+    );
+    put(
+        b"
+  ql fx 24 fxrotate-bit-field 0x1234 4 12 4
+  ql widths fxarithmetic-shift 1 30
+  ql bitwise bitwise-xor -1 #xffffffffffffffffffffffff
+  ql list 24 4 12 0x1234 rot:3 rev rot:1
+",
+        out,
+        at,
+    )
+}
+
+// What each command does.
+fn put_fx_help(out: &mut [u8]) -> usize {
+    put(
+        b"ql fx WIDTH OP ARG..
+One fixnum operation of R6RS at a width, which is how many bits a fixnum has. OP is its name or its code. Booleans are 1 and 0.
+Where an operation has two results they stand on two lines. A call outside its domain is refused, with a number from 1 to 6 and
+the reason.
+",
+        out,
+        0,
+    )
+}
+
+fn put_widths_help(out: &mut [u8]) -> usize {
+    put(
+        b"ql widths OP ARG..
+One fixnum operation at every width that is accepted, as R6RS says it and this project settles what R6RS leaves open. A line has
+the widths with one answer. The exit status is 0 where all widths agree. Whether a Scheme system does what R6RS says is another question:
+docs/HOSTS.md has what some of them do.
+",
+        out,
+        0,
+    )
+}
+
+fn put_bitwise_help(out: &mut [u8]) -> usize {
+    put(
+        b"ql bitwise OP ARG..
+One bitwise operation of R6RS on integers of up to 1024 limbs of 32 bits, in two's complement. Long integers are written and printed
+in hexadecimal. A call outside its domain is refused, with a number from 3 to 8 and the reason.
+",
+        out,
+        0,
+    )
+}
+
+fn put_list_help(out: &mut [u8]) -> usize {
+    put(
+        b"ql list WIDTH START END NUMBER CALL..
+Calls on one field of a number, one after the other: rot:COUNT rotates it, rev reverses it. Each line has a call and its result. Then
+come the net count, and the one rotation, of the number or of its reversal, that the whole list equals.
+",
+        out,
+        0,
+    )
+}
+
+fn put_ops_help(out: &mut [u8]) -> usize {
+    put(
+        b"ql ops [OP]
+The operations: code, name, how many arguments, and which.
+",
+        out,
+        0,
+    )
+}
+
+fn put_batch_help(out: &mut [u8]) -> usize {
+    put(
+        b"ql batch
+Reads calls from standard input, a line each, such as 'fx 24 fxand 12 10' or 'bitwise bitwise-not 5', and answers a line for each, in
+order. A line that cannot be read is answered by the reason. An empty line is answered by an empty one. The exit status is 2 where
+a line cannot be read, else 1 where a call is refused, else 0.
+",
+        out,
+        0,
+    )
+}
+
+// What a command does, by its line among the commands.
+pub fn put_command_help(command: u64, out: &mut [u8]) -> usize {
+    match command {
+        1 => put_fx_help(out),
+        2 => put_widths_help(out),
+        3 => put_bitwise_help(out),
+        4 => put_list_help(out),
+        5 => put_ops_help(out),
+        6 => put_usage(out),
+        _ => put_batch_help(out),
+    }
+}
+
+// The line of a fixnum operation in a table that is in two parts.
+fn put_either(numbers: &[u8], bits: &[u8], code: u64, out: &mut [u8], at: usize) -> usize {
+    if code <= 24 {
+        put_line(numbers, code, out, at)
+    } else {
+        put_line(bits, code - 24, out, at)
+    }
+}
+
+// What a fixnum operation does.
+pub fn put_meaning(code: u64, out: &mut [u8], at: usize) -> usize {
+    put_either(&number_meanings(), &bit_meanings(), code, out, at)
+}
+
+// Arguments of a fixnum operation that make a short example.
+pub fn put_sample(code: u64, out: &mut [u8], at: usize) -> usize {
+    put_either(&number_samples(), &bit_samples(), code, out, at)
+}
