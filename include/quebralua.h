@@ -64,8 +64,8 @@ typedef struct { uint64_t refusal; int64_t value; } ql_value;
      41 fxreverse-bit-field (number, start, end)                             3
 
    Positions, starts and ends are 0 to w - 1, with start <= end; the distance of 37 is -(w-1) to w - 1, of 38 and 39 it is
-   0 to w - 1; the count of 40 is at least 0 and below end - start; a new bit is 0 or 1. Codes 18, 21 and 22 to 24 have
-   two results: quotient and remainder, and the low word and the carry. */
+   0 to w - 1; the count of 40 is 0 to end - start; a new bit is 0 or 1. Codes 18, 21 and 22 to 24 have two results:
+   quotient and remainder, and the low word and the carry. */
 ql_fixnum_answer ql_fixnum(uint64_t width, uint64_t code, uint64_t count, int64_t a, int64_t b, int64_t c, int64_t d);
 
 /* Integers in limbs.

@@ -106,7 +106,7 @@ def grouped(host):
     groups = collections.defaultdict(list)
     for call, kind in host.partings:
         refusal = int(call.ours[1]) if call.ours[0] == 'refused' else 0
-        note = settled(call.code, call.arguments, host.width, kind, call.theirs)
+        note = settled(call.code, call.arguments, host.width, kind)
         if not note and beyond(call, host.width):
             note = 'the answer is no fixnum'
         groups[call.code, list(KINDS).index(kind), where(call.code, call.arguments, host.width, refusal), note].append(call)

@@ -20,12 +20,6 @@ def field_domain(start, end, width):
             or ('end < start' if end < start else None))
 
 
-def count_domain(count, size):
-    if count < 0:
-        return 'count < 0'
-    return 'count = end - start' if count == size else 'count > end - start'
-
-
 def outside_domain(code, arguments, width):
     """Which rule of R6RS on its arguments a call breaks that has refusal 5."""
     if code == 15:
@@ -38,7 +32,7 @@ def outside_domain(code, arguments, width):
         return field_domain(arguments[1], arguments[2], width)
     if code == 40:
         _, start, end, count = arguments
-        return field_domain(start, end, width) or count_domain(count, end - start)
+        return field_domain(start, end, width) or ('count < 0' if count < 0 else 'count > end - start')
     return 'distance < 0' if arguments[1] < 0 else 'distance > w - 1'
 
 
@@ -54,7 +48,11 @@ def where(code, arguments, width, refusal):
         return 'the result is no fixnum'
     if code in (33, 34) and arguments[1] == width - 1:
         return 'position = w - 1'
-    return ''
+    return 'count = end - start' if is_full_rotation(code, arguments) else ''
+
+
+def is_full_rotation(code, arguments):
+    return code == 40 and arguments[3] == arguments[2] - arguments[1]
 
 
 def sample_overflows(code, arguments, width):
@@ -73,12 +71,10 @@ def sample_overflows(code, arguments, width):
     return False
 
 
-def settled(code, arguments, width, kind, answer):
+def settled(code, arguments, width, kind):
     """What to say where this project settles what the sources leave open; '' elsewhere."""
-    if kind == 'refuses' and sample_overflows(code, arguments, width):
-        return SAMPLE_OVERFLOWS
-    if kind == 'accepts' and code == 40 and len(arguments) == 4:
-        x, start, end, count = arguments
-        if 0 <= start <= end < width and count == end - start and answer == ['0', str(x), '0']:
-            return FULL_ROTATION
-    return ''
+    if kind != 'refuses':
+        return ''
+    if is_full_rotation(code, arguments):
+        return FULL_ROTATION
+    return SAMPLE_OVERFLOWS if sample_overflows(code, arguments, width) else ''

@@ -99,6 +99,15 @@ module _ (start end : ℕ) where
   rotate-zero x =
       permuteField-id (rotateIndex (end - start) (pos 0)) x start end (λ j l. rotateIndex-zero (end - start) (omega arith) j l)
 
+  -- by the size of the field
+  pub rotate-full : (x : ℤ) → rotateBitField x start end (pos (end - start)) ≡ x
+  unfolding rotateBitField
+  rotate-full x =
+      permuteField-id (rotateIndex (end - start) (pos (end - start))) x start end
+      (λ j l. ap (λ (c : ℤ). rotateIndex (end - start) c j) (sym (+ℤ-idr (pos (end - start))))
+      ∙ rotateIndex-period (end - start) (omega arith) (pos 0) j
+      ∙ rotateIndex-zero (end - start) (omega arith) j l)
+
   -- only the count modulo the size matters
   pub rotate-mod : (x : ℤ) (c : ℤ) → rotateBitField x start end («mod» c (pos (end - start))) ≡ rotateBitField x start end c
   unfolding rotateBitField

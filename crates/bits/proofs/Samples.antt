@@ -10,7 +10,7 @@ use lib.Arith.{half-le}
 use lib.Dec.{eqb, ltb, leb, eqb·suc-zero}
 use lib.IntN.{ℤ, pos, negsuc, _-ℤ_, _*ℤ_}
 use lib.Signed.{mag}
-use borrow.Author.Tests.{eqb-true, eq-eqb, lt-ltb, le-ltb, le-leb, lt-leb}
+use borrow.Author.Tests.{eqb-true, eqb-false, eq-eqb, lt-ltb, le-ltb, le-leb, lt-leb}
 use Rattle.bits.specs.Testbit.{odd, isNegative, testbit, halvings, bitLength, consBit, ofBits}
 use Rattle.bits.specs.Logical.{bitwiseNot, bitwiseAnd, bitwiseIor, bitwiseIf}
 use Rattle.bits.specs.Shift.{floorDiv, shiftLeft, shiftRight, arithmeticShift}
@@ -42,13 +42,15 @@ use Rattle.bits.proofs.LogicalLaws.{testbit-not, testbit-and, testbit-i
 use Rattle.bits.proofs.FieldLaws.{by-field, testbit-bitField, testbit-copyBitField, testbit-copyBit, testbit-rotateBitField}
 use Rattle.bits.proofs.ShiftLaws.{
   shiftLeft-zero,
+  shiftLeft-zero-l,
   shiftRight-zero,
   testbit-shiftLeft,
   testbit-shiftLeft-ge,
   testbit-shiftLeft-one,
   testbit-shiftLeft-ones,
 }
-use Rattle.bits.proofs.RotateLaws.{rotateIndex-nat, rotate-empty}
+use Rattle.bits.proofs.RotateLaws.{rotateIndex-nat, rotate-empty, rotate-full}
+use Rattle.bits.proofs.FieldAlgebra.{bitField-empty, copyBitField-bitField}
 
 abbrev isZero : ℤ → Bool
 isZero (pos n) = eqb n 0
@@ -319,9 +321,9 @@ shorter-field n start end count j l =
         testbit-bitField n start e (j - count)
         ∙ ap (λ (b : Bool). b && testbit n (start + (j - count))) (lt-ltb (j - count) (e - start) h)
 
-pub sample-fxRotateBitField : (n : ℤ) (start end count : ℕ) → count < end - start
+below-size : (n : ℤ) (start end count : ℕ) → count < end - start
     → fxRotateBitFieldSample n start end count ≡ rotateBitField n start end (pos count)
-sample-fxRotateBitField n start end count h =
+below-size n start end count h =
     rotated-field n start end count
     (bitwiseIor (shiftLeft (bitField n start (end - count)) count) (shiftRight (bitField n start end) (end - start - count)))
     (omega arith)
@@ -333,6 +335,29 @@ sample-fxRotateBitField n start end count h =
   where
     low : ℤ
     low = shiftRight (bitField n start end) (end - start - count)
+
+-- by the size of the field nothing is shifted up, and the whole field comes down by 0
+by-size : (n : ℤ) (start end : ℕ) → fxRotateBitFieldSample n start end (end - start) ≡ n
+by-size n start end =
+    let e : end - start - (end - start) ≡ 0 = omega arith in
+    ap (copyBitField n start end)
+    (ap₂ bitwiseIor
+    (ap (λ (x : ℤ). shiftLeft x (end - start)) (bitField-empty n start (end - (end - start)) (omega arith)) ∙ shiftLeft-zero-l (end - start))
+    (ap (shiftRight (bitField n start end)) e ∙ shiftRight-zero (bitField n start end))
+    ∙ Algebra.ior-zero-l (bitField n start end))
+    ∙ copyBitField-bitField n start end
+
+pub sample-fxRotateBitField : (n : ℤ) (start end count : ℕ) → count ≤ end - start
+    → fxRotateBitFieldSample n start end count ≡ rotateBitField n start end (pos count)
+sample-fxRotateBitField n start end count h = go (eqb count (end - start)) refl
+  where
+    go : (b : Bool) → eqb count (end - start) ≡ b → fxRotateBitFieldSample n start end count ≡ rotateBitField n start end (pos count)
+    go true e =
+        let k = eqb-true count (end - start) e in
+        ap (fxRotateBitFieldSample n start end) k
+        ∙ by-size n start end
+        ∙ sym (ap (λ (c : ℕ). rotateBitField n start end (pos c)) k ∙ rotate-full start end n)
+    go false e = below-size n start end count (omega (arith, eqb-false count (end - start) e))
 
 -- ---- the examples
 -- negsuc n is -(n + 1)

@@ -6,7 +6,6 @@ use mathlib.Core.Path.{_≡_, refl, sym, ap, _∙_, subst}
 use mathlib.Core.Bool.{Bool, true, false, _&&_}
 use mathlib.Core.List.{List, [], _∷_}
 use lib.IntN.{ℤ, pos, natAbs}
-use lib.Signed.{leZ, ltZ}
 use lib.ListN.{length}
 use lib.Seq.{take-length}
 use borrow.Author.Tests.{le-leb, lt-ltb}
@@ -26,12 +25,16 @@ use Rattle.outcomes.specs.Outcome.{done, refuse}
 use Rattle.outcomes.proofs.OutcomeLaws.{passed, failed}
 use Rattle.fxtable.proofs.CallLaws.{accepted, never-checked}
 use Rattle.fxtable.proofs.MeaningLaws.{every-outcome}
-use Rattle.fxtable.proofs.ArgumentLaws.{natural-pos, count-pos}
+use Rattle.fxtable.proofs.ArgumentLaws.{natural-pos, within-pos}
 
 -- which rotations are done, by their count
-pub by-count : (w start end : ℕ) → start ≤ end → (c : ℤ) → isDone w start end (rotate c) ≡ leZ (pos 0) c && ltZ c (pos (end - start))
+pub by-count : (w start end : ℕ) → start ≤ end → (c : ℤ) → isDone w start end (rotate c) ≡ within (pos 0) c (pos (end - start))
 unfolding isDone accepts arg
 by-count w start end h c = rw (pos-sub-ge end start h)
+
+pub count-done : (w start end : ℕ) → start ≤ end → (c : ℕ) → c ≤ end - start → isDone w start end (rotate (pos c)) ≡ true
+unfolding within
+count-done w start end h c l = by-count w start end h (pos c) ∙ rw (le-leb 0 c zero-le, le-leb c (end - start) l)
 
 -- ---- the field operations
 
@@ -69,8 +72,8 @@ module _ (w : ℕ) (a : isWidth w ≡ true) where
     module _ (c : ℤ) where
       count-fits : isDone w start end (rotate c) ≡ true → fits w c ≡ true
       count-fits d =
-          let n = count-pos (end - start) c (sym (by-count w start end h c) ∙ d) in
-          subst (λ (z : ℤ). fits w z ≡ true) (natural-pos c (n .0)) (position-fits (natAbs c) (omega (arith, n .1)))
+          let n = within-pos 0 (end - start) c (sym (by-count w start end h c) ∙ d) in
+          subst (λ (z : ℤ). fits w z ≡ true) (natural-pos c (n .0)) (position-fits (natAbs c) (omega (arith, n .2)))
 
       rotate-fixnums : allFixnums w (x ∷ pos start ∷ pos end ∷ c ∷ []) ≡ fits w c
       unfolding allFixnums

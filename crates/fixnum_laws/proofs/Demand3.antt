@@ -1,22 +1,22 @@
 -- Demand 3 for fixnums: every list of codes 40 and 41 on a field, at every accepted width. Assumes nothing.
-use Prim.Native.Nat.{ℕ, zero-le, _-_, _≤_, _<_, _^_}
-use native.Mathlib.Nat.{le-of-lt, lt-of-lt-of-le}
+use Prim.Native.Nat.{ℕ, _-_, _≤_, _<_}
+use native.Mathlib.Nat.{le-of-lt}
 use native.Mathlib.Omega.{arith}
 use mathlib.Core.Path.{_≡_, refl, sym, ap, _∙_, subst}
 use mathlib.Core.Bool.{Bool, true, false, cond, _&&_, _||_, xor}
 use mathlib.Core.List.{List, [], _∷_, map}
 use lib.Dec.{eqb}
-use lib.IntN.{ℤ, pos}
+use lib.IntN.{ℤ, pos, negsuc}
 use lib.ListN.{length, length-map}
 use lib.Signed.{leZ, ltZ}
-use borrow.Author.Tests.{lt-ltb, le-leb}
+use borrow.Author.Tests.{ltb-true}
 use Rattle.bits.specs.Testbit.{isNegative, testbit, fits, fill}
 use Rattle.bits.specs.Logical.{bitwise, bitwiseNot, bitwiseFrom, bitwiseAll, bitwiseAnds, bitwiseIors, bitwiseXors}
 use Rattle.bits.specs.Count.{bitCount}
 use Rattle.bits.specs.Field.{rotateBitField, reverseBitField}
 use Rattle.bits.specs.FieldList.{FieldCall, rotate, reverse, runCall, runCalls, netCount, oddReversals}
 use Rattle.bits.proofs.LengthLaws.{fits-not}
-use Rattle.bits.proofs.FitsLaws.{is-true, pow-fits, fill-fits, bitwise-fits}
+use Rattle.bits.proofs.FitsLaws.{is-true, fill-fits, bitwise-fits}
 use Rattle.bits.proofs.ListTheorem.{ListLaw, list-theorem, calls-fit}
 use Rattle.fxtable.specs.declared.answer.Answer.{Answer}
 use Rattle.outcomes.specs.Outcome.{done, refuse}
@@ -24,10 +24,11 @@ use Rattle.fxtable.specs.Calls.{answer, allFixnums}
 use Rattle.fxtable.specs.Domains.{isWidth}
 use Rattle.fxtable.specs.Operations.{every}
 use Rattle.fxtable.specs.Table.{row, rows, isCode, rowOf}
-use Rattle.fixnum_laws.specs.Lists.{answerOf, answerTo, handOn, runAll, isDone, turned, ListStatement}
-use Rattle.bits.proofs.Booleans.{both-left, both-right, and-second}
+use Rattle.fixnum_laws.specs.Lists.{answerOf, answerTo, handOn, runAll, isDone, countFits, refusalTo, turned, ListStatement}
+use Rattle.bits.proofs.Booleans.{both-left, both-right}
 use Rattle.fxtable.proofs.TableLaws.{from-to}
-use Rattle.fixnum_laws.proofs.AnswerLaws.{by-count, reverse-answer, rotate-answer, rotate-no-fixnum, rotate-out-of-domain, one-answer, every-answer}
+use Rattle.fixnum_laws.proofs.ShortLists.{done-answer, twice, between-reversals, twice-reversed, back, different}
+use Rattle.fixnum_laws.proofs.AnswerLaws.{count-done, reverse-answer, rotate-answer, rotate-no-fixnum, rotate-out-of-domain, one-answer, every-answer}
 
 -- ---- fixnums stay fixnums
 
@@ -50,34 +51,36 @@ module _ (w : ℕ) (a : isWidth w ≡ true) (start end : ℕ) (h : start < end) 
 
   -- one call: its answer by the rule, and what it hands on
   record Step (call : FieldCall) (x : ℤ) : Type 0 where
-    pub ruled : eqb (answerTo w start end call x .refusal) 0 ≡ isDone w start end call
+    pub ruled : answerTo w start end call x .refusal ≡ refusalTo w start end call
     pub handed : handOn (answerTo w start end call x) x ≡ cond (isDone w start end call) (runCall start end call x) x
 
   done-step : (call : FieldCall) (x : ℤ) → answerTo w start end call x ≡ answer (done (runCall start end call x, pos 0)) → isDone w start end call ≡ true
       → Step call x
-  unfolding answer handOn
+  unfolding answer handOn refusalTo
   done-step call x e d = record {
-    ruled = ap (λ (r : Answer). eqb (r .refusal) 0) e ∙ sym d;
+    ruled = ap (λ (r : Answer). r .refusal) e ∙ sym (ap (λ (t : Bool). cond t 0 (cond (countFits w call) 5 4)) d);
     handed = ap (λ (r : Answer). handOn r x) e ∙ sym (ap (λ (t : Bool). cond t (runCall start end call x) x) d);
   }
 
   refused-step : (call : FieldCall) (x : ℤ) (n : ℕ) → answerTo w start end call x ≡ answer (refuse n) → eqb n 0 ≡ false → isDone w start end call ≡ false
-      → Step call x
-  unfolding answer handOn
-  refused-step call x n e z d = record {
-    ruled = ap (λ (r : Answer). eqb (r .refusal) 0) e ∙ z ∙ sym d;
+      → cond (countFits w call) 5 4 ≡ n → Step call x
+  unfolding answer handOn refusalTo
+  refused-step call x n e z d g = record {
+    ruled = ap (λ (r : Answer). r .refusal) e ∙ sym (ap (λ (t : Bool). cond t 0 (cond (countFits w call) 5 4)) d ∙ g);
     handed = ap (λ (r : Answer). handOn r x) e ∙ ap (λ (t : Bool). cond t (pos 0) x) z ∙ sym (ap (λ (t : Bool). cond t (runCall start end call x) x) d);
   }
 
   step : (call : FieldCall) (x : ℤ) → fits w x ≡ true → Step call x
-  unfolding answerTo runCall isDone
+  unfolding answerTo isDone countFits
   step (rotate c) x f = go (isDone w start end (rotate c)) (fits w c) refl refl
     where
       go : (d g : Bool) → isDone w start end (rotate c) ≡ d → fits w c ≡ g → Step (rotate c) x
-      go true g p q = done-step (rotate c) x (rotate-answer w a x start end f (le-of-lt h) k c p) p
-      go false false p q = refused-step (rotate c) x 4 (rotate-no-fixnum w a x start end f (le-of-lt h) k c q) refl p
-      go false true p q = refused-step (rotate c) x 5 (rotate-out-of-domain w a x start end f (le-of-lt h) k c q p) refl p
-  step reverse x f = done-step reverse x (reverse-answer w a x start end f (le-of-lt h) k) refl
+      go true g p q = done-step (rotate c) x (done-answer w a start end h k (rotate c) x f p) p
+      go false false p q =
+          refused-step (rotate c) x 4 (rotate-no-fixnum w a x start end f (le-of-lt h) k c q) refl p (ap (λ (t : Bool). cond t 5 4) q)
+      go false true p q =
+          refused-step (rotate c) x 5 (rotate-out-of-domain w a x start end f (le-of-lt h) k c q p) refl p (ap (λ (t : Bool). cond t 5 4) q)
+  step reverse x f = done-step reverse x (done-answer w a start end h k reverse x f refl) refl
 
   agree : (calls : List FieldCall) (x : ℤ) → fits w x ≡ true → runAll w start end calls x ≡ runCalls (isDone w start end) start end calls x
   unfolding runAll runCalls
@@ -108,12 +111,13 @@ module _ (w : ℕ) (a : isWidth w ≡ true) (start end : ℕ) (h : start < end) 
       go true = calls-fit (λ _. true) start end h w k (reverse ∷ []) x f
       go false = f
 
+  below-done : (c : ℤ) → leZ (pos 0) c ≡ true → ltZ c (pos (end - start)) ≡ true → isDone w start end (rotate c) ≡ true
+  below-done (pos n) p q = count-done w start end (le-of-lt h) n (le-of-lt (ltb-true n (end - start) q))
+  below-done (negsuc n) p q = let z : _≡_ {A = ℕ} 0 1 = cc in absurd (omega arith)
+
   net-done : (calls : List FieldCall) → isDone w start end (rotate (netCount rule (end - start) calls)) ≡ true
   net-done calls =
-      let n = netCount rule (end - start) calls in
-      by-count w start end (le-of-lt h) n
-      ∙ sym (and-second (leZ (pos 0) n) (ltZ n (pos (end - start))) (is-true (law rule .net-count calls .0 .le)))
-      ∙ is-true (law rule .net-count calls .1 .lt)
+      below-done (netCount rule (end - start) calls) (is-true (law rule .net-count calls .0 .le)) (is-true (law rule .net-count calls .1 .lt))
 
   ends : (calls : List FieldCall) (x : ℤ) → fits w x ≡ true
       → answerOf w 40 (turned w start end calls x ∷ pos start ∷ pos end ∷ netCount rule (end - start) calls ∷ []) ≡ answer (done (runAll w start end calls x, pos 0))
@@ -183,20 +187,6 @@ module _ (w : ℕ) (a : isWidth w ≡ true) (start end : ℕ) (h : start < end) 
       (over-all calls 26 _&&_ true refl refl, (over-all calls 27 _||_ false refl refl, (over-all calls 28 xor false refl refl, tt)))
       code m (omega arith)
 
-  witness-fits : fits w (pos (2 ^ start)) ≡ true
-  witness-fits = pow-fits w start (lt-of-lt-of-le h k)
-
-  rotated : (c : ℕ) → c < end - start
-      → answerOf w 40 (pos (2 ^ start) ∷ pos start ∷ pos end ∷ pos c ∷ []) ≡ answer (done (rotateBitField (pos (2 ^ start)) start end (pos c), pos 0))
-  rotated c l =
-      rotate-answer w a (pos (2 ^ start)) start end witness-fits (le-of-lt h) k (pos c) (by-count w start end (le-of-lt h) (pos c) ∙ rw (le-leb 0 c zero-le, lt-ltb c (end - start) l))
-
-  different : (c d : ℕ) → c < end - start → d < end - start → (c ≡ d → ⊥)
-      → (x : ℤ) × (fits w x ≡ true) × (answerOf w 40 (x ∷ pos start ∷ pos end ∷ pos c ∷ []) ≡ answerOf w 40 (x ∷ pos start ∷ pos end ∷ pos d ∷ []) → ⊥)
-  unfolding answer
-  different c d l m n =
-      (pos (2 ^ start), witness-fits, λ e. law rule .counts-differ c d l m n (ap (λ (r : Answer). r .first) (sym (rotated c l) ∙ e ∙ rotated d m)))
-
 pub demand3-fixnum : (w : ℕ) → isWidth w ≡ true → (start end : ℕ) → start < end → end ≤ w - 1 → ListStatement w start end
 demand3-fixnum w a start end h k = record {
   rule = λ call x f. step w a start end h k call x f .ruled;
@@ -209,5 +199,9 @@ demand3-fixnum w a start end h k = record {
       ap (λ (z : ℤ). testbit z i) (agree w a start end h k calls x f) ∙ list-theorem (isDone w start end) start end h .outside calls x i o;
   commutes-not = nots w a start end h k;
   distributes = distributed w a start end h k;
+  rotate-rotate = twice w a start end h k;
+  reverse-rotate-reverse = between-reversals w a start end h k;
+  reverse-reverse = twice-reversed w a start end h k;
+  rotate-back = back w a start end h k;
   counts-differ = different w a start end h k;
 }

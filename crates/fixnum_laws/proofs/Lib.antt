@@ -3,4 +3,6 @@ pub mod AnswerLaws
 pub mod Influence
 pub mod ResultLaws
 pub mod Closure
+pub mod ShortLists
 pub mod Demand3
+pub mod Rotations

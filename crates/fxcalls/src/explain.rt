@@ -22,7 +22,7 @@ use words::sign::power;
 fn put_field_rule(fourth: Domain, out: &mut [u8], at: usize) -> usize {
     match fourth {
         Domain::Rotation => put(
-            b"start at most end, and argument 4, the count, at least 0 and below end - start",
+            b"start at most end, and argument 4, the count, from 0 to end - start",
             out,
             at,
         ),

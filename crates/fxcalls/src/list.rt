@@ -208,7 +208,7 @@ fn put_rotation(field: Field, x: i64, state: State, out: &mut [u8], at: usize) -
 fn put_end(field: Field, x: i64, state: State, out: &mut [u8]) -> usize {
     if size_of(field) == 0 {
         return put(
-            b"the field is empty: no rotation is done, and there is no net count\n",
+            b"the field is empty: there is no net count\n",
             out,
             state.filled,
         );

@@ -5,9 +5,9 @@ use native.Mathlib.Omega.{arith}
 use mathlib.Core.Path.{_≡_, refl, sym, _∙_, subst}
 use mathlib.Core.Bool.{Bool, true, false, _&&_}
 use mathlib.Core.List.{List}
-use lib.Dec.{leb, ltb}
+use lib.Dec.{leb}
 use lib.IntN.{ℤ, pos, negsuc, negℤ, natAbs}
-use lib.Signed.{leZ, ltZ}
+use lib.Signed.{leZ}
 use borrow.Author.Tests.{leb-true, ltb-true}
 use Rattle.bits.specs.Testbit.{isNegative, fits}
 use Rattle.bits.specs.Range.{within}
@@ -29,7 +29,7 @@ unfolding isNegative
 natural-pos (pos n) h = refl
 natural-pos (negsuc n) h = let z : _≡_ {A = ℕ} 0 1 = cc in absurd (omega arith)
 
-within-pos : (s k : ℕ) (x : ℤ) → within (pos s) x (pos k) ≡ true → (isNegative x ≡ false) × (s ≤ natAbs x) × (natAbs x ≤ k)
+pub within-pos : (s k : ℕ) (x : ℤ) → within (pos s) x (pos k) ≡ true → (isNegative x ≡ false) × (s ≤ natAbs x) × (natAbs x ≤ k)
 unfolding within isNegative
 within-pos s k (pos n) h = let b = between s n k h in (refl, b .0, b .1)
 within-pos s k (negsuc n) h = let z : _≡_ {A = ℕ} 0 1 = cc in absurd (omega arith)
@@ -39,11 +39,6 @@ unfolding within
 within-both m (pos n) h = leb-true n m (both-right (leZ (negℤ (pos m)) (pos n)) (leb n m) h)
 within-both zero (negsuc n) h = let z : _≡_ {A = ℕ} 0 1 = cc in absurd (omega arith)
 within-both (suc m) (negsuc n) h = let l = leb-true n m (both-left (leb n m) true h) in omega arith
-
-pub count-pos : (size : ℕ) (c : ℤ) → leZ (pos 0) c && ltZ c (pos size) ≡ true → (isNegative c ≡ false) × (natAbs c < size)
-unfolding isNegative
-count-pos size (pos n) h = (refl, ltb-true n size (both-right (leb 0 n) (ltb n size) h))
-count-pos size (negsuc n) h = let z : _≡_ {A = ℕ} 0 1 = cc in absurd (omega arith)
 
 -- ---- the arguments of a call
 
@@ -106,8 +101,10 @@ module _ {w code : ℕ} {xs : List ℤ} {n : ℕ} (a : Accepted w code xs n) whe
       record { start = s .0; end = e .0; ordered = e .1; below = omega (arith, bounds, e .2) }
 
   pub rotation : FieldArguments xs → domainOf code 3 ≡ Rotation
-      → (isNegative (arg xs 3) ≡ false) × (natAbs (arg xs 3) < natAbs (arg xs 2) - natAbs (arg xs 1))
+      → (isNegative (arg xs 3) ≡ false) × (natAbs (arg xs 3) ≤ natAbs (arg xs 2) - natAbs (arg xs 1))
   unfolding accepts
   rotation f e =
-      count-pos (natAbs (arg xs 2) - natAbs (arg xs 1)) (arg xs 3)
-      (rw (sym (pos-sub-ge (natAbs (arg xs 2)) (natAbs (arg xs 1)) (f .ordered)), natural-pos (arg xs 1) (f .start), natural-pos (arg xs 2) (f .end)) (fourth e))
+      let c =
+      within-pos 0 (natAbs (arg xs 2) - natAbs (arg xs 1)) (arg xs 3)
+      (rw (sym (pos-sub-ge (natAbs (arg xs 2)) (natAbs (arg xs 1)) (f .ordered)), natural-pos (arg xs 1) (f .start), natural-pos (arg xs 2) (f .end)) (fourth e)) in
+      (c .0, c .2)

@@ -191,9 +191,12 @@ rowLimits w =
     ∷ refusal w 40 (pos 7 ∷ pos 5 ∷ pos 4 ∷ pos 0 ∷ []) 5
     ∷ refusal w 40 (pos 7 ∷ pos 4 ∷ pos 12 ∷ neg 1 ∷ []) 5
     ∷ refusal w 40 (pos 7 ∷ pos 4 ∷ pos 12 ∷ pos 0 ∷ []) 0
-    ∷ refusal w 40 (pos 7 ∷ pos 4 ∷ pos 12 ∷ pos 7 ∷ []) 0
-    ∷ refusal w 40 (pos 7 ∷ pos 4 ∷ pos 12 ∷ pos 8 ∷ []) 5
-    ∷ refusal w 40 (pos 7 ∷ pos 4 ∷ pos 4 ∷ pos 0 ∷ []) 5
+    ∷ refusal w 40 (pos 7 ∷ pos 4 ∷ pos 12 ∷ pos 8 ∷ []) 0
+    ∷ refusal w 40 (pos 7 ∷ pos 4 ∷ pos 12 ∷ pos 9 ∷ []) 5
+    ∷ refusal w 40 (pos 7 ∷ pos 4 ∷ pos 4 ∷ pos 0 ∷ []) 0
+    ∷ refusal w 40 (pos 7 ∷ pos 4 ∷ pos 4 ∷ pos 1 ∷ []) 5
+    ∷ refusal w 40 (pos 7 ∷ pos 0 ∷ pos (w - 1) ∷ pos (w - 1) ∷ []) 0
+    ∷ refusal w 40 (pos 7 ∷ pos (w - 1) ∷ pos (w - 1) ∷ neg 1 ∷ []) 5
     ∷ refusal w 37 (pos 0 ∷ (negℤ (pos w)) ∷ []) 5
     ∷ refusal w 37 (pos 0 ∷ (negℤ (pos (w - 1))) ∷ []) 0
     ∷ refusal w 37 (pos 0 ∷ pos (w - 1) ∷ []) 0
@@ -273,8 +276,10 @@ programs =
     ∷ gives 24 40 (pos 1 ∷ pos 5 ∷ pos 4 ∷ pos 8388608 ∷ []) 4 (refuse 4)
     ∷ gives 24 16 (neg 8388608 ∷ pos 0 ∷ []) 2 (refuse 5)
     -- a full rotation, and an empty field
-    ∷ gives 24 40 (pos 1 ∷ pos 4 ∷ pos 12 ∷ pos 8 ∷ []) 4 (refuse 5)
-    ∷ gives 24 40 (pos 1 ∷ pos 4 ∷ pos 4 ∷ pos 0 ∷ []) 4 (refuse 5)
+    ∷ gives 24 40 (neg 4661 ∷ pos 4 ∷ pos 12 ∷ pos 8 ∷ []) 4 (done (neg 4661, pos 0))
+    ∷ gives 24 40 (pos 1 ∷ pos 4 ∷ pos 12 ∷ pos 9 ∷ []) 4 (refuse 5)
+    ∷ gives 24 40 (neg 4661 ∷ pos 4 ∷ pos 4 ∷ pos 0 ∷ []) 4 (done (neg 4661, pos 0))
+    ∷ gives 24 40 (pos 1 ∷ pos 4 ∷ pos 4 ∷ pos 1 ∷ []) 4 (refuse 5)
     -- fx- against fx+ and fx*
     ∷ gives 24 15 (neg 8388608 ∷ pos 1 ∷ []) 2 (refuse 5)
     ∷ gives 24 13 (pos 8388607 ∷ pos 1 ∷ []) 2 (refuse 6)

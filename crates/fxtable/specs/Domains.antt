@@ -4,14 +4,13 @@
 --   accepts d w xs x        ==  whether x, an argument of xs at width w, lies in the domain d
 --   domainAt ds i           ==  the domain of argument i: any fixnum where ds is shorter
 --   inDomains ds w xs       ==  whether each argument lies in its domain
--- A field's start is argument 1 and its end argument 2.
+-- A field's start is argument 1 and its end argument 2. A rotation's count goes from 0 to the size of the field.
 use Prim.Native.Nat.{ℕ, suc, _-_}
 use mathlib.Core.Bool.{Bool, true, _&&_}
 use mathlib.Core.List.{List, [], _∷_}
 use lib.Dec.{leb, ltb}
 use lib.IntN.{ℤ, pos, negℤ, natAbs, _-ℤ_}
 use lib.ListN.{getD}
-use lib.Signed.{leZ, ltZ}
 use Rattle.bits.specs.Range.{within}
 use Rattle.fxtable.specs.declared.domains.Domain.{Domain}
 use Rattle.fxtable.specs.declared.domains.Domain.the-variants.{Fixnum, Divisor, Position, FieldEnd, NewBit, SignedDistance, Distance, Rotation}
@@ -36,7 +35,7 @@ accepts FieldEnd w xs x = within (arg xs 1) x (pos (w - 1))
 accepts NewBit w xs x = within (pos 0) x (pos 1)
 accepts SignedDistance w xs x = within (negℤ (pos (w - 1))) x (pos (w - 1))
 accepts Distance w xs x = within (pos 0) x (pos (w - 1))
-accepts Rotation w xs x = leZ (pos 0) x && ltZ x (arg xs 2 -ℤ arg xs 1)
+accepts Rotation w xs x = within (pos 0) x (arg xs 2 -ℤ arg xs 1)
 
 unfoldable pub domainAt : List Domain → ℕ → Domain
 domainAt ds i = getD ds i Fixnum

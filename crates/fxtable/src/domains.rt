@@ -1,9 +1,8 @@
 // Where an argument must lie, beyond being a fixnum; `Domain::Fixnum` asks for no more.
 ghost use mathlib.Core.Path.{_≡_};
-ghost use mathlib.Core.Bool.{true, _&&_};
+ghost use mathlib.Core.Bool.{true};
 ghost use Prim.Native.Nat.{_≤_};
 ghost use lib.IntN.{pos};
-ghost use lib.Signed.{leZ, ltZ};
 ghost use Rattle.bits.specs.Range as range;
 ghost use Rattle.fxtable.specs.declared.domains.Domain.the-variants.{Rotation};
 ghost use Rattle.fxtable.specs.Domains as domains;
@@ -24,11 +23,11 @@ pub enum Domain {
     Rotation,
 }
 
-// Whether x lies from 0 to size - 1.
-fn below(x: i64, size: i64) -> bool
-    ensures { λ r. ⌜ r ≡ leZ (pos 0) x && ltZ x size ⌝ }
+// Whether a field of some size may be rotated by x: by 0 up to its size, which leaves it as it is.
+fn is_rotation(x: i64, size: i64) -> bool
+    ensures { λ r. ⌜ r ≡ range.within (pos 0) x size ⌝ }
 {
-    0 <= x && x < size
+    0 <= x && x <= size
 }
 
 // Whether argument i lies in its domain. One that may be any fixnum is not read. A rotation's count comes behind a start and an end
@@ -47,7 +46,7 @@ fn accepts(domain: Domain, width: u64, args: [i64; 4], i: u64) -> bool
         Domain::NewBit => within(0, args[i as usize], 1),
         Domain::SignedDistance => within(0 - last, args[i as usize], last),
         Domain::Distance => within(0, args[i as usize], last),
-        Domain::Rotation => below(args[i as usize], args[2] - args[1]),
+        Domain::Rotation => is_rotation(args[i as usize], args[2] - args[1]),
     }
 }
 

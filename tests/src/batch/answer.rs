@@ -99,6 +99,9 @@ mod tests {
         assert_eq!(done("fx 62 21 11 7"), "2 0x2, -3 -0x3");
         assert_eq!(done("fx 24 fx+/carry 8388607 1 0"), "-8388608 -0x800000, 1 0x1");
         assert_eq!(done("fx 24 fxand"), "-1 -0x1");
+        assert_eq!(done("fx 24 fxrotate-bit-field 5 0 3 3"), "5 0x5");
+        assert_eq!(done("fx 62 40 -6 0 61 61"), "-6 -0x6");
+        assert_eq!(done("fx 24 fxrotate-bit-field -6 23 23 0"), "-6 -0x6");
         assert_eq!(done("bitwise bitwise-not #xffffffffffffffff"), "-0x10000000000000000");
         assert_eq!(done("bitwise bitwise-copy-bit-field -1 28 36 0"), "-68451041281 -0xff0000001");
         assert_eq!(done("bitwise bitwise-arithmetic-shift -5 -9223372036854775808"), "-1 -0x1");
@@ -113,6 +116,9 @@ mod tests {
             ("fx 24 fxand 1 2 3 4 5", 3),
             ("fx 24 fxnot 8388608", 4),
             ("fx 24 fx- -8388608", 5),
+            ("fx 24 fxrotate-bit-field 5 0 3 4", 5),
+            ("fx 24 fxrotate-bit-field 5 3 3 1", 5),
+            ("fx 24 fxrotate-bit-field 5 3 3 -1", 5),
             ("fx 24 fx+ 8388607 1", 6),
             ("bitwise bitwise-not", 3),
             ("bitwise bitwise-not 1 2", 3),

@@ -55,11 +55,11 @@ fn counts_and_order(checker: &mut Checker) {
     let counts = [0, 1, 2, 3, 4, 5, 6, 1 << 32, (1 << 32) + 2, u64::MAX];
     for &width in &widths {
         let least = if (24..=62).contains(&width) { least(width) } else { -8 };
-        let arguments =
-            [[0; 4], [1; 4], [5, 1, 3, 1], [i64::MAX; 4], [least; 4], [least, -1, 0, 0], [0, 0, 0, 1 << 62]];
+        let mut arguments = vec![[0; 4], [1; 4], [i64::MAX; 4], [least; 4], [least, -1, 0, 0], [0, 0, 0, 1 << 62]];
+        arguments.extend([1, 2, 3].map(|rotation| [5, 1, 3, rotation]));
         for &code in &codes {
             for &count in &counts {
-                for args in arguments {
+                for &args in &arguments {
                     checker.edge_fixnum(FixnumCall { width, code, count, args });
                 }
             }

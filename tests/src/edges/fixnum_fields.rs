@@ -1,8 +1,8 @@
-//! Every field of every width, and every rotation count of it.
+//! Every field of every width, empty ones too, and every rotation count of it, from one below to one beyond.
 
 use crate::checker::Checker;
 use quebralua_reference::call::FixnumCall;
-use quebralua_reference::fixnum_arguments::{least, random_fixnum};
+use quebralua_reference::fixnum_arguments::{greatest, least, random_fixnum};
 
 pub fn run(checker: &mut Checker) {
     for width in 24..=62 {
@@ -25,8 +25,14 @@ fn field(checker: &mut Checker, width: u64, start: i64, end: i64) {
         call(35, 3, -1);
         call(36, 4, !any);
         call(41, 3, -1);
-        for rotation in 0..=end - start {
+        for rotation in rotations(width, end - start) {
             call(40, 4, rotation);
         }
     }
+}
+
+/// Every count that a field of f bits takes, the next ones on either side, and those around the limits of a fixnum.
+fn rotations(width: u64, f: i64) -> impl Iterator<Item = i64> {
+    let (least, greatest) = (least(width), greatest(width));
+    (-1..=f + 1).chain([least, least - 1, greatest, greatest + 1, i64::MIN, i64::MAX])
 }

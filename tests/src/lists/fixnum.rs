@@ -15,10 +15,16 @@ pub struct Fixnums {
 }
 
 impl Fixnums {
+    /// Some fields are as long as the width allows, and some have one bit.
     pub fn random(random: &mut Random) -> Fixnums {
         let width = 24 + random.below(39);
-        let start = random.between(0, width as i64 - 2);
-        let end = random.between(start + 1, width as i64 - 1);
+        let last = width as i64 - 1;
+        let start = random.between(0, last - 1);
+        let (start, end) = match random.below(16) {
+            0 => (0, last),
+            1 => (start, start + 1),
+            _ => (start, random.between(start + 1, last)),
+        };
         Fixnums { width, start, end }
     }
 
@@ -52,7 +58,7 @@ impl Part for Fixnums {
     }
 
     fn accepts(&self, count: i64) -> bool {
-        0 <= count && count < self.end - self.start
+        0 <= count && count <= self.end - self.start
     }
 
     fn random_number(&self, random: &mut Random) -> i64 {
@@ -66,8 +72,9 @@ impl Part for Fixnums {
         let f = self.end - self.start;
         match random.below(6) {
             0 => random.choose(&positions(self.width)),
-            1 => random.choose(&[f, f + 1, -1, 0, f - 1]),
-            _ => random.between(0, f - 1),
+            1 => random.choose(&[-1, 0, f - 1, f, f + 1]),
+            2 => f,
+            _ => random.between(0, f),
         }
     }
 

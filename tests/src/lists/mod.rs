@@ -1,6 +1,7 @@
 //! Lists of rotate and reverse calls on one field, for both parts: the number at the end is the first number reversed
 //! or not and rotated once by the net count; bit count, sign and the bits outside the field are kept; the list commutes
-//! with not and distributes over and, ior and xor; rotations by differing counts differ.
+//! with not and distributes over and, ior and xor; rotations by differing counts differ. Each call is done or refused as
+//! its count says: the number at the end would be the same if a full rotation were refused.
 
 mod fixnum;
 mod limbs;
@@ -20,6 +21,7 @@ struct Held {
     lists: u64,
     done: u64,
     refused: u64,
+    full: u64,
     reversed: u64,
 }
 
@@ -35,8 +37,11 @@ pub fn run(checker: &mut Checker, lists: u64) {
         }
     }
     for (name, held) in [("fixnum", fixnum_lists), ("limb", limb_lists)] {
-        let Held { lists, done, refused, reversed } = held;
-        println!("{lists} lists of {name} calls: {done} done, {refused} refused; {reversed} lists reverse the field");
+        let Held { lists, done, refused, full, reversed } = held;
+        println!(
+            "{lists} lists of {name} calls: {done} done, {full} of them full rotations, {refused} refused; \
+             {reversed} lists reverse the field"
+        );
     }
 }
 
@@ -47,6 +52,7 @@ impl Held {
         self.lists += 1;
         self.done += done;
         self.refused += steps.len() as u64 - done;
+        self.full += steps.iter().filter(|&&step| step == Step::Rotate(end - start)).count() as u64;
         self.reversed += u64::from(net(steps, end - start, |count| part.accepts(count)).reversed);
     }
 }
@@ -55,6 +61,7 @@ fn check_field<P: Part>(checker: &mut Checker, part: &P, held: &mut Held) {
     let steps = random_steps(&mut checker.random, part);
     held.count(part, &steps);
     let x = part.random_number(&mut checker.random);
+    check_done(checker, part, &x, &steps);
     check_end(checker, part, &x, &steps);
     check_kept(checker, part, &x, &steps);
     check_not(checker, part, &x, &steps);
@@ -67,6 +74,20 @@ fn random_steps<P: Part>(random: &mut Random, part: &P) -> Vec<Step> {
     let steps = random.below(9);
     let step = |_| if random.one_in(3) { Step::Reverse } else { Step::Rotate(part.random_count(random)) };
     (0..steps).map(step).collect()
+}
+
+/// Each call is done exactly where its count is accepted.
+fn check_done<P: Part>(checker: &mut Checker, part: &P, x: &P::Number, steps: &[Step]) {
+    let mut x = x.clone();
+    for &step in steps {
+        let answer = part.step(checker, &x, step);
+        let (expected, got) = (part.is_done(step), answer.is_some());
+        if expected != got {
+            let [expected, got] = [expected, got].map(|done| if done { "done" } else { "refused" });
+            difference(&part.step_text(&x, step), expected, got);
+        }
+        x = answer.unwrap_or(x);
+    }
 }
 
 /// The end is one rotation by the net count, after a reversal if the done reversals are odd in number: by the
@@ -128,20 +149,33 @@ fn check_distribution<P: Part>(checker: &mut Checker, part: &P, steps: &[Step]) 
 }
 
 /// Rotation by a and then b is rotation by (a + b) mod f; reverse, rotate by a, reverse is rotation by (f - a) mod f;
-/// reversing twice changes nothing.
+/// reversing twice changes nothing; nor does a full rotation, in one call or in two. All these calls are done.
 fn check_short_lists<P: Part>(checker: &mut Checker, part: &P, x: &P::Number) {
     let (start, end) = part.field();
     let f = end - start;
-    let (a, b) = (checker.random.between(0, f - 1), checker.random.between(0, f - 1));
+    let (a, b) = (short_count(&mut checker.random, f), short_count(&mut checker.random, f));
     let pairs = [
         (vec![Step::Rotate(a), Step::Rotate(b)], vec![Step::Rotate((a + b) % f)]),
         (vec![Step::Reverse, Step::Rotate(a), Step::Reverse], vec![Step::Rotate((f - a) % f)]),
         (vec![Step::Reverse, Step::Reverse], vec![]),
+        (vec![Step::Rotate(f)], vec![]),
+        (vec![Step::Rotate(a), Step::Rotate(f - a)], vec![]),
+        (vec![Step::Rotate(a), Step::Rotate((f - a) % f)], vec![]),
     ];
     for (long, short) in pairs {
+        check_done(checker, part, x, &long);
         let expected = end_of(checker, part, x, &short);
         let got = end_of(checker, part, x, &long);
         require(checker, part, x, &long, "the shorter list", &part.integer(&expected), &part.integer(&got));
+    }
+}
+
+/// A count from 0 to f, often one of these two.
+fn short_count(random: &mut Random, f: i64) -> i64 {
+    if random.one_in(4) {
+        random.choose(&[0, f])
+    } else {
+        random.between(0, f)
     }
 }
 

@@ -18,7 +18,7 @@ pub fn call(random: &mut Random) -> FixnumCall {
     match code {
         16..=21 if random.one_in(24) => args = [least(fixnum_width), -1, 0, 0],
         37 | 38 => shrink(random, code, &mut args),
-        35 | 36 | 40 | 41 => order_field(random, code, &mut args),
+        35 | 36 | 40 | 41 => order_field(random, fixnum_width, code, &mut args),
         _ => {}
     }
     FixnumCall { width, code, count, args }
@@ -73,13 +73,56 @@ fn shrink(random: &mut Random, code: u64, args: &mut [i64; 4]) {
     }
 }
 
-/// Makes most fields legal, and most rotation counts too.
-fn order_field(random: &mut Random, code: u64, args: &mut [i64; 4]) {
+/// Makes most fields legal, some of them empty or as long as the width allows, and most rotation counts legal too.
+fn order_field(random: &mut Random, width: u64, code: u64, args: &mut [i64; 4]) {
     if args[1] > args[2] && !random.one_in(8) {
         args.swap(1, 2);
     }
-    let f = args[2].wrapping_sub(args[1]);
-    if code == 40 && f > 0 && !random.one_in(8) {
-        args[3] = random.below(f as u64) as i64;
+    match random.below(32) {
+        0 | 1 => args[2] = args[1],
+        2 => (args[1], args[2]) = (0, width as i64 - 1),
+        _ => {}
+    }
+    if code == 40 && !random.one_in(8) {
+        args[3] = rotation_count(random, args[2].wrapping_sub(args[1]));
+    }
+}
+
+/// A count for a field of f bits: often a full rotation, at times just outside the domain.
+fn rotation_count(random: &mut Random, f: i64) -> i64 {
+    match random.below(16) {
+        0 | 1 => f,
+        2 => random.choose(&[-1, f.wrapping_add(1)]),
+        _ => random.between(0, f.max(0)),
+    }
+}
+
+#[cfg(test)]
+mod tests {
+    use super::*;
+    use crate::reference::fixnum::fixnum;
+    use crate::refusal::{DOMAIN, DONE};
+
+    /// Of every hundred calls of code 40, how many have that answer and a field and count as `is` says, given the
+    /// width, f and the count.
+    fn share(answer: u64, is: impl Fn(i64, i64, i64) -> bool) -> usize {
+        let mut random = Random::new(1);
+        let calls = std::iter::repeat_with(|| call(&mut random)).filter(|call| call.code == 40);
+        let chosen = |call: &FixnumCall| {
+            let [_, start, end, count] = call.args;
+            let f = end.wrapping_sub(start);
+            fixnum(call.width, 40, call.args, call.count).0 == answer && is(call.width as i64, f, count)
+        };
+        calls.take(10_000).filter(chosen).count() / 100
+    }
+
+    #[test]
+    fn rotations_at_the_limits_come_often() {
+        assert!(share(DONE, |_, f, count| f > 0 && count == f) >= 5);
+        assert!(share(DONE, |_, f, _| f == 0) >= 5);
+        assert!(share(DONE, |width, f, _| f == width - 1) >= 2);
+        assert!(share(DOMAIN, |_, f, count| f >= 0 && count == f + 1) >= 1);
+        assert!(share(DOMAIN, |_, f, count| f >= 0 && count == -1) >= 1);
+        assert!(share(DONE, |_, f, count| 0 < count && count < f) >= 40);
     }
 }

@@ -81,7 +81,7 @@ fn in_domain(code: u64, width: i128, args: &[i128]) -> bool {
         35 | 36 | 41 => field(args[1], args[2]),
         37 => -width < args[1] && args[1] < width,
         38 | 39 => 0 <= args[1] && args[1] < width,
-        40 => field(args[1], args[2]) && 0 <= args[3] && args[3] < args[2] - args[1],
+        40 => field(args[1], args[2]) && 0 <= args[3] && args[3] <= args[2] - args[1],
         _ => true,
     }
 }

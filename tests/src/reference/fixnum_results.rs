@@ -134,6 +134,7 @@ fn fields(code: u64, width: u32, args: &[i128]) -> i128 {
         35 => from_bits(width, |i| inside(start + i) && bit(x, start + i)),
         36 => from_bits(width, |i| if inside(i) { bit(args[3], i - start) } else { bit(x, i) }),
         40 => {
+            // An empty field has no bit inside: nothing is taken mod 0.
             let source = |i: i128| start + (i - start - args[3]).rem_euclid(end - start);
             from_bits(width, |i| bit(x, if inside(i) { source(i) } else { i }))
         }

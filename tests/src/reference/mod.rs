@@ -1,4 +1,4 @@
-//! The second implementation: every call, from the rules of R6RS and 01, and not from the library's code.
+//! The second implementation: every call, from the rules of R6RS, 01 and 02, and not from the library's code.
 //!
 //! - `fixnum`: the fixnum calls, on i128
 //! - `fixnum_results`: their exact results

@@ -35,7 +35,7 @@ fn numbers(random: &mut Random, operation: Operation, width: i64) -> Vec<i64> {
         Shift => vec![random.between(1 - width, width - 1)],
         ShiftLeft | ShiftRight | BitSet => vec![start],
         BitField | CopyBitField | Reverse => vec![start, end],
-        Rotate => vec![start, end.max(start + 1), random.between(0, (end - start - 1).max(0))],
+        Rotate => vec![start, end, random.between(0, end - start)],
         _ => vec![],
     }
 }

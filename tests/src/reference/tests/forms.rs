@@ -50,8 +50,10 @@ fn limb_domains() {
 #[test]
 fn net_count() {
     let steps = [Step::Rotate(3), Step::Reverse, Step::Rotate(9), Step::Rotate(-1), Step::Rotate(4)];
-    assert_eq!(net(&steps, 8, |c| (0..8).contains(&c)), Net { reversed: true, count: 1 });
+    assert_eq!(net(&steps, 8, |c| (0..=8).contains(&c)), Net { reversed: true, count: 1 });
     assert_eq!(net(&steps, 8, |c| c >= 0), Net { reversed: true, count: 2 });
     assert_eq!(net(&[Step::Rotate(i64::MAX); 2], 10, |_| true), Net { reversed: false, count: 4 });
     assert_eq!(net(&[Step::Reverse; 2], 1, |_| true), Net { reversed: false, count: 0 });
+    let full = [Step::Rotate(8), Step::Rotate(3), Step::Rotate(8), Step::Reverse, Step::Rotate(8)];
+    assert_eq!(net(&full, 8, |c| (0..=8).contains(&c)), Net { reversed: true, count: 5 });
 }

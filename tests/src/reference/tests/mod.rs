@@ -5,6 +5,7 @@ mod cases;
 mod exactness;
 mod forms;
 mod programs;
+mod rotations;
 mod samples;
 
 use super::fixnum::fixnum;

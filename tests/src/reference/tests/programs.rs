@@ -48,11 +48,3 @@ fn a_product_that_wraps_at_64_bits() {
     let x = 1 << 32;
     assert_eq!(call(62, 14, &[x, x]), (SIZE, 0, 0));
 }
-
-#[test]
-fn rotation_by_a_whole_field() {
-    assert_eq!(call(24, 40, &[5, 0, 3, 3]), (DOMAIN, 0, 0));
-    assert_eq!(call(24, 40, &[5, 3, 3, 0]), (DOMAIN, 0, 0));
-    assert_eq!(small(Rotate, &[5], &[0, 3, 3]), Ok(5));
-    assert_eq!(small(Rotate, &[5], &[3, 3, 7]), Ok(5));
-}

@@ -75,11 +75,9 @@ fn fixnum_samples() {
         let inside = (1 << end) - (1 << start);
         let copied = (x & !inside) | ((y << start) & inside);
         assert_eq!(fx(36, &[a, start, end, b]), (0, copied as i64, 0));
-        if start < end {
-            let count = random.between(0, end - start - 1);
-            let moved = (field << count) | (field >> (end - start - count));
-            let rotated = (x & !inside) | ((moved << start) & inside);
-            assert_eq!(fx(40, &[a, start, end, count]), (0, rotated as i64, 0));
-        }
+        let count = random.between(0, end - start);
+        let moved = (field << count) | (field >> (end - start - count));
+        let rotated = (x & !inside) | ((moved << start) & inside);
+        assert_eq!(fx(40, &[a, start, end, count]), (0, rotated as i64, 0));
     }
 }

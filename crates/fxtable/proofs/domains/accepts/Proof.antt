@@ -36,12 +36,12 @@ sub-within c =
     let a = c .before .before in
     rw (last a) (negated-last (a .args .width) (a .pre .0 .0) .1)
 
-sub-below : tie.Need-sub-below
+sub-is-rotation : tie.Need-sub-is-rotation
 unfolding arg
-sub-below c =
+sub-is-rotation c =
     let a = c .before .before .before .before .before in
-    let end : SFits w64 (arg (a .args .t3) 2) = record { sfits = c .before .below-arg2 .given } in
-    rw (back-word (arg (a .args .t3) 2) (c .before .below-arg2 .given), back-word (arg (a .args .t3) 1) (c .below-arg3 .given))
+    let end : SFits w64 (arg (a .args .t3) 2) = record { sfits = c .before .is-rotation-arg2 .given } in
+    rw (back-word (arg (a .args .t3) 2) (c .before .is-rotation-arg2 .given), back-word (arg (a .args .t3) 1) (c .is-rotation-arg3 .given))
     (field-size (arg (a .args .t3) 1) (arg (a .args .t3) 2) (a .pre .1 (c .before .before .before .enum-told8 .given .1)) end)
 
 returns : tie.Need-returns
@@ -94,9 +94,9 @@ returns-8 : tie.Need-returns-8
 unfolding accepts arg
 returns-8 c =
     let a = c .before .before .before .before .before .before in
-    let end = back-word (arg (a .args .t3) 2) (c .before .before .below-arg2 .given) in
-    let start = back-word (arg (a .args .t3) 1) (c .before .below-arg3 .given) in
-    (rw (back-word (arg (a .args .t3) (a .args .i)) (c .before .before .before .below-arg .given), end, start, rw (end, start) at (back (sub-below (c .before)))) at (c .below .ensures))
+    let end = back-word (arg (a .args .t3) 2) (c .before .before .is-rotation-arg2 .given) in
+    let start = back-word (arg (a .args .t3) 1) (c .before .is-rotation-arg3 .given) in
+    (rw (back-word (arg (a .args .t3) (a .args .i)) (c .before .before .before .is-rotation-arg .given), end, start, rw (end, start) at (back (sub-is-rotation (c .before)))) at (c .is-rotation .ensures))
     ∙ arm _ _ _ (c .before .before .before .before .enum-told8 .given .1)
 
 pub accepts-spec : {M : Type 1} → statement M
@@ -137,7 +137,7 @@ accepts-spec =
     (λ c. search needs)
     (λ c. search needs)
     (λ c. search needs)
-    sub-below
+    sub-is-rotation
     (λ c κs. search needs)
     returns
     returns-2
