@@ -5,12 +5,12 @@ ghost use Rattle.fxtable.specs.Calls.{fixnumAnswer};
 mod dispatch;
 
 use dispatch::operate;
+use fxstages::domains::in_domains;
+use fxstages::fixnums::all_fixnums;
 use fxtable::answer::Answer;
 use fxtable::answer::refuse;
-use fxtable::domains::in_domains;
 use fxtable::table::is_code;
 use fxtable::table::is_count;
-use fxtable::width::all_fixnums;
 use fxtable::width::is_width;
 
 // The answer of the operation with a code, at a width, to the first `count` elements of `args`. Refusals in this order: 1 for the

@@ -26,7 +26,7 @@ use Rattle.fxtable.specs.Table.{rows, isCode, rowOf}
 use Rattle.fxtable.specs.Calls.{answer, counted, isCount, allFixnums, outcome, fixnumAnswer}
 use Rattle.fxtable.proofs.CallLaws.{arg-exactly}
 use Rattle.fxtable.proofs.MeaningLaws.{every-outcome}
-use Rattle.fxtable.proofs.ArgumentLaws.{natural-pos, within-pos}
+use Rattle.fxstages.proofs.ArgumentLaws.{natural-pos, within-pos}
 use Rattle.fixnum_laws.specs.Lists.{answerOf, isDone}
 use Rattle.fixnum_laws.specs.Rotations.{legalField, belowSize, isSize, strictAnswer, isFullRotation}
 use Rattle.fixnum_laws.proofs.AnswerLaws.{by-count, count-done, rotate-answer, rotate-no-fixnum, rotate-out-of-domain}

@@ -7,7 +7,7 @@
 --   refusalTo w start end call     ==  0 for a call that is done; else 4 where its count is no fixnum, and 5 where it is one
 --   turned w start end calls x     ==  x, or code 41's answer to it where the done reversals are odd in number
 --   Gives w start end calls x y    ==  each call of the list, from x, is done and gets the result of the one before; the last result is y
---   Agree w start end one other x      ==  all calls of both lists, from x, are done, and both end in the same number
+--   Agree w start end one other x  ==  all calls of both lists, from x, are done, and both end in the same number
 --   ListStatement w start end      ==  what demand 3 says of the field, at the width
 use Prim.Native.Nat.{ℕ, _+_, _-_, _%_, _≤_, _<_}
 use mathlib.Core.Path.{_≡_}

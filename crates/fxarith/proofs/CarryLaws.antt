@@ -14,7 +14,7 @@ use Rattle.fxtable.specs.Table.{row, rows, rowOf}
 use Rattle.fxtable.specs.Inner.{Accepted}
 use Rattle.fxtable.proofs.CallLaws.{width-bounds}
 use Rattle.fxtable.proofs.TableLaws.{from-to}
-use Rattle.fxtable.proofs.ArgumentLaws.{fixnum-at}
+use Rattle.fxstages.proofs.ArgumentLaws.{fixnum-at}
 
 -- ---- the results
 

@@ -14,7 +14,7 @@ use borrow.Author.Tests.{eq-eqb, ne-eqb, eqb-true, eqb-false, leb-true, leb-fals
 use Rattle.fxtable.specs.Domains.{arg}
 use Rattle.fxtable.specs.Operations.{equal, chainFrom, chain}
 use Rattle.fxtable.specs.Calls.{counted}
-use Rattle.fxtable.proofs.LoopLaws.{rest-cons, rest-none}
+use Rattle.fxstages.proofs.LoopLaws.{rest-cons, rest-none}
 
 module _ (xs : List ℤ) (n : ℕ) (four : length xs ≡ 4) (few : n ≤ 4) where
   pub chain-step : (r : ℤ → ℤ → Bool) (i : ℕ) → i + 1 < n

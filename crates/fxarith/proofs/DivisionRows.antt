@@ -12,7 +12,7 @@ use Rattle.fxtable.specs.declared.domains.Domain.the-variants.{Fixnum, Divisor}
 use Rattle.fxtable.specs.Domains.{domainAt}
 use Rattle.fxtable.specs.Operations.{Results, two, pair}
 use Rattle.fxtable.specs.Table.{Row, row, rows, rowOf}
-use Rattle.fxtable.proofs.DomainLaws.{domainOf}
+use Rattle.fxstages.proofs.DomainLaws.{domainOf}
 use Rattle.fxtable.proofs.TableLaws.{from-to}
 
 abbrev pub divisionRow : ℕ → Results → Row

@@ -9,11 +9,11 @@ ghost use Rattle.fxtable.specs.Table.{row, rowOf};
 ghost use Rattle.fxarith.specs.Relations.{holds};
 use super::chain::Relation;
 use super::chain::chain;
+use fxstages::fold::Fold;
+use fxstages::fold::fold_all;
 use fxtable::answer::Answer;
 use fxtable::answer::done;
 use fxtable::answer::question;
-use fxtable::fold::Fold;
-use fxtable::fold::fold_all;
 use words::sign::absolute;
 
 fn relation(code: u64) -> Relation

@@ -3,9 +3,9 @@ ghost use mathlib.Core.Path.{_≡_};
 ghost use Prim.Native.Nat.{_≤_};
 ghost use Rattle.fxtable.specs.Calls.{answer, counted, outcome};
 ghost use Rattle.fxtable.specs.Inner.{Accepted};
+use fxstages::overflow::checked;
 use fxtable::answer::Answer;
 use fxtable::answer::done;
-use fxtable::overflow::checked;
 use widewords::division;
 use words::sign::from_absolute;
 

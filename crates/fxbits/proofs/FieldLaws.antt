@@ -21,8 +21,8 @@ use Rattle.fxtable.specs.declared.domains.Domain.the-variants.{Position, FieldE
 use Rattle.fxtable.specs.Domains.{arg, domainAt}
 use Rattle.fxtable.specs.Table.{rows, rowOf}
 use Rattle.fxtable.specs.Inner.{Accepted}
-use Rattle.fxtable.proofs.DomainLaws.{domainOf}
-use Rattle.fxtable.proofs.ArgumentLaws.{FieldArguments, position-lt, field}
+use Rattle.fxstages.proofs.DomainLaws.{domainOf}
+use Rattle.fxstages.proofs.ArgumentLaws.{FieldArguments, position-lt, field}
 use Rattle.fxtable.proofs.TableLaws.{from-to}
 
 pub position-call : {w code : ℕ} {xs : List ℤ} {n : ℕ} → (33 ≤ code) × (code ≤ 34) → Accepted w code xs n → natAbs (arg xs 1) < w

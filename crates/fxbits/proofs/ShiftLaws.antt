@@ -12,7 +12,7 @@ use Rattle.bits.specs.Shift.{floorDiv, shiftLeft, shiftRight, arithmeticShift}
 use Rattle.fxtable.specs.Domains.{arg, domainAt}
 use Rattle.fxtable.specs.Table.{rows, rowOf}
 use Rattle.fxtable.specs.Inner.{Accepted}
-use Rattle.fxtable.proofs.ArgumentLaws.{distance-lt, signed-distance-lt}
+use Rattle.fxstages.proofs.ArgumentLaws.{distance-lt, signed-distance-lt}
 use Rattle.fxtable.proofs.TableLaws.{from-to}
 use Rattle.words.proofs.SignedLaws.{withSign-times}
 

@@ -3,10 +3,10 @@ ghost use mathlib.Core.Path.{_≡_};
 ghost use Prim.Native.Nat.{_≤_};
 ghost use Rattle.fxtable.specs.Calls.{answer, counted, outcome};
 ghost use Rattle.fxtable.specs.Inner.{Accepted};
+use fxstages::fold::Fold;
+use fxstages::fold::fold_all;
 use fxtable::answer::Answer;
 use fxtable::answer::done;
-use fxtable::fold::Fold;
-use fxtable::fold::fold_all;
 use words::logical::and;
 use words::logical::ior;
 

@@ -1,8 +1,5 @@
--- Laws of the table, of accepted calls, and of the loops over the arguments.
+-- Laws of the table and of accepted calls.
 pub mod CallLaws
 pub mod TableLaws
-pub mod DomainLaws
 pub mod MeaningLaws
-pub mod LoopLaws
-pub mod ArgumentLaws
 pub mod Cases

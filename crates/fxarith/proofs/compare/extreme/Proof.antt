@@ -7,17 +7,17 @@ use lib.IntN.{ℤ}
 use mir.Syntax.{w64}
 use mir.Val.{toZ, ofZ}
 use Rattle.words.proofs.WordLaws.{back-word}
-use Rattle.fxtable.specs.declared.fold.Fold.{Fold}
-use Rattle.fxtable.specs.declared.fold.Fold.the-variants.{Largest, Smallest}
+use Rattle.fxstages.specs.declared.fold.Fold.{Fold}
+use Rattle.fxstages.specs.declared.fold.Fold.the-variants.{Largest, Smallest}
 use Rattle.fxtable.specs.Domains.{arg}
 use Rattle.fxtable.specs.Operations.{every, foldFrom, largest, smallest}
-use Rattle.fxtable.specs.Inner.{step}
+use Rattle.fxstages.specs.Inner.{step}
 use Rattle.fxtable.specs.Table.{row, rows, rowOf}
 use Rattle.fxtable.specs.Calls.{counted}
 use Rattle.fxtable.proofs.CallLaws.{between, arg-counted}
 use Rattle.fxtable.proofs.MeaningLaws.{arity-row}
 use Rattle.fxtable.proofs.TableLaws.{at-most-four}
-use Rattle.fxtable.proofs.LoopLaws.{fold-answer}
+use Rattle.fxstages.proofs.LoopLaws.{fold-answer}
 use Rattle.fxarith.proofs.compare.extreme.Statement.{statement}
 use Rattle.fxarith.proofs.compare.extreme.Tie as tie
 

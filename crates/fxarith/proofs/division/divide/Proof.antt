@@ -10,7 +10,7 @@ use Rattle.words.proofs.WordLaws.{back}
 use Rattle.fxtable.specs.Domains.{arg}
 use Rattle.fxtable.proofs.CallLaws.{done-cong, checked-cong, never-checked}
 use Rattle.fxtable.proofs.MeaningLaws.{two-outcome, pair-outcome}
-use Rattle.fxtable.proofs.ArgumentLaws.{divisor-positive}
+use Rattle.fxstages.proofs.ArgumentLaws.{divisor-positive}
 use Rattle.fxarith.proofs.DivisionRows.{quotientOf, remainderOf, takes-divisor, quotient-row, remainder-row, both-row, both-code}
 use Rattle.fxarith.proofs.division.divide.Statement.{statement}
 use Rattle.fxarith.proofs.division.divide.Tie as tie

@@ -14,8 +14,8 @@ use Rattle.fxtable.specs.Domains.{arg, domainAt}
 use Rattle.fxtable.specs.Table.{rows, rowOf}
 use Rattle.fxtable.proofs.CallLaws.{done-never}
 use Rattle.fxtable.proofs.MeaningLaws.{three-outcome, four-outcome}
-use Rattle.fxtable.proofs.DomainLaws.{domainOf}
-use Rattle.fxtable.proofs.ArgumentLaws.{natural-pos, rotation}
+use Rattle.fxstages.proofs.DomainLaws.{domainOf}
+use Rattle.fxstages.proofs.ArgumentLaws.{natural-pos, rotation}
 use Rattle.fxbits.proofs.FieldLaws.{field-call, field-lt, field-word}
 use Rattle.fxbits.proofs.fields.fields.Statement.{statement}
 use Rattle.fxbits.proofs.fields.fields.Tie as tie

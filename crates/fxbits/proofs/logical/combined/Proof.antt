@@ -6,11 +6,11 @@ use mathlib.Core.Bool.{_&&_, _||_, xor}
 use lib.IntN.{pos, negsuc}
 use Rattle.bits.specs.Testbit.{fill}
 use Rattle.bits.specs.Logical.{bitwiseAnd, bitwiseIor, bitwiseXor, bitwiseAll, bitwiseAnds, bitwiseIors, bitwiseXors}
-use Rattle.fxtable.specs.declared.fold.Fold.the-variants.{And, Ior, Xor}
-use Rattle.fxtable.specs.Inner.{step}
+use Rattle.fxstages.specs.declared.fold.Fold.the-variants.{And, Ior, Xor}
+use Rattle.fxstages.specs.Inner.{step}
 use Rattle.fxtable.specs.Table.{rows, rowOf}
 use Rattle.fxtable.proofs.TableLaws.{at-most-four}
-use Rattle.fxtable.proofs.LoopLaws.{from-fold, fold-answer}
+use Rattle.fxstages.proofs.LoopLaws.{from-fold, fold-answer}
 use Rattle.fxbits.proofs.logical.combined.Statement.{statement}
 use Rattle.fxbits.proofs.logical.combined.Tie as tie
 

@@ -15,7 +15,7 @@ use Rattle.fxtable.specs.Table.{rows, rowOf}
 use Rattle.bits.proofs.FitsLaws.{right-fits}
 use Rattle.fxtable.proofs.CallLaws.{done-word, done-never, checked-cong, checked-fits}
 use Rattle.fxtable.proofs.MeaningLaws.{two-outcome}
-use Rattle.fxtable.proofs.ArgumentLaws.{fixnum-at}
+use Rattle.fxstages.proofs.ArgumentLaws.{fixnum-at}
 use Rattle.fxbits.proofs.ShiftLaws.{shift-call, shift-left, shift-right}
 use Rattle.fxbits.proofs.shifts.shift.Statement.{statement}
 use Rattle.fxbits.proofs.shifts.shift.Tie as tie

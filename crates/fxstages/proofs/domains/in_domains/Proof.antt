@@ -1,13 +1,13 @@
--- `fxtable::domains::in_domains` meets its contract. Assumes nothing.
+-- `fxstages::domains::in_domains` meets its contract. Assumes nothing.
 use borrow.Author.Needs.{needs}
 use native.Mathlib.Omega.{arith}
 use mathlib.Core.Path.{_≡_, sym, _∙_}
 use mathlib.Core.Bool.{true}
 use borrow.Author.Tests.{not-true, not-false}
 use Rattle.fxtable.specs.Domains.{accepts}
-use Rattle.fxtable.proofs.DomainLaws.{signature-domains, no-second, no-third, in-order}
-use Rattle.fxtable.proofs.domains.in_domains.Statement.{statement}
-use Rattle.fxtable.proofs.domains.in_domains.Tie as tie
+use Rattle.fxstages.proofs.DomainLaws.{signature-domains, no-second, no-third, in-order}
+use Rattle.fxstages.proofs.domains.in_domains.Statement.{statement}
+use Rattle.fxstages.proofs.domains.in_domains.Tie as tie
 
 second-ok : (c : tie.Else1) → c .before .accepts .result ≡ true
 second-ok c = not-false _ (c .if1 .left)

@@ -1,11 +1,11 @@
--- `fxtable::overflow::checked` meets its contract. Assumes nothing.
+-- `fxstages::overflow::checked` meets its contract. Assumes nothing.
 use borrow.Author.Needs.{needs}
 use native.Mathlib.Omega.{arith}
 use mathlib.Core.Path.{sym, _∙_}
 use Rattle.words.proofs.WordLaws.{back}
 use Rattle.fxtable.proofs.CallLaws.{width-bounds, fits-word, done-cong, checked-fits, checked-large}
-use Rattle.fxtable.proofs.overflow.checked.Statement.{statement}
-use Rattle.fxtable.proofs.overflow.checked.Tie as tie
+use Rattle.fxstages.proofs.overflow.checked.Statement.{statement}
+use Rattle.fxstages.proofs.overflow.checked.Tie as tie
 
 absolute-fits-requires : tie.Need-absolute-fits-requires
 absolute-fits-requires c κs = let b = width-bounds (c .args .width) (c .pre .0) in omega arith

@@ -1,4 +1,4 @@
--- `fxtable::fold::fold_all` meets its contract. The invariant: the answer is the fold of the arguments from i on, from the present value.
+-- `fxstages::fold::fold_all` meets its contract. The invariant: the answer is the fold of the arguments from i on, from the present value.
 -- Assumes nothing.
 use Prim.Native.Nat.{_+_, _-_, _≤_}
 use native.Mathlib.Omega.{arith}
@@ -9,13 +9,13 @@ use mir.Syntax.{w64}
 use mir.Val.{toZ, ofZ}
 use borrow.Author.Needs.{needs}
 use Rattle.words.proofs.WordLaws.{back, back-word}
 use Rattle.fxtable.specs.Domains.{arg}
 use Rattle.fxtable.specs.Operations.{foldFrom}
-use Rattle.fxtable.specs.Inner.{step}
+use Rattle.fxstages.specs.Inner.{step}
 use Rattle.fxtable.specs.Calls.{counted}
-use Rattle.fxtable.proofs.LoopLaws.{fold-step, fold-two, rest-none}
-use Rattle.fxtable.proofs.fold.fold_all.Statement.{statement}
-use Rattle.fxtable.proofs.fold.fold_all.Tie as tie
+use Rattle.fxstages.proofs.LoopLaws.{fold-step, fold-two, rest-none}
+use Rattle.fxstages.proofs.fold.fold_all.Statement.{statement}
+use Rattle.fxstages.proofs.fold.fold_all.Tie as tie
 
 abbrev Inv-loop : tie.InvT-loop
 Inv-loop fold first count args value₀ i₀ value i =

@@ -1,9 +1,9 @@
 // A fold from the left of the arguments up to the count.
 ghost use mathlib.Core.Path.{_≡_};
 ghost use Prim.Native.Nat.{_≤_};
 ghost use Rattle.fxtable.specs.Operations as operations;
-ghost use Rattle.fxtable.specs.Inner.{step};
+ghost use Rattle.fxstages.specs.Inner.{step};
 ghost use Rattle.fxtable.specs.Calls.{counted};
 use words::logical::and;
 use words::logical::ior;
 use words::logical::xor;

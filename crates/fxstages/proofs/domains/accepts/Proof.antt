@@ -1,4 +1,4 @@
--- `fxtable::domains::accepts` meets its contract. Assumes nothing.
+-- `fxstages::domains::accepts` meets its contract. Assumes nothing.
 use borrow.Author.Needs.{needs}
 use Prim.Native.Nat.{ℕ, _-_}
 use native.Mathlib.Omega.{arith}
@@ -10,12 +10,12 @@ use mir.Syntax.{w64}
 use mir.Val.{SFits, toZ}
 use mir.ValLaws.{toZ-pos}
 use Rattle.words.proofs.WordLaws.{back, back-word}
 use Rattle.fxtable.specs.declared.domains.Domain.{Domain}
 use Rattle.fxtable.specs.Domains.{arg, accepts}
 use Rattle.fxtable.proofs.CallLaws.{width-bounds}
-use Rattle.fxtable.proofs.DomainLaws.{field-size, negated-last}
-use Rattle.fxtable.proofs.domains.accepts.Statement.{statement}
-use Rattle.fxtable.proofs.domains.accepts.Tie as tie
+use Rattle.fxstages.proofs.DomainLaws.{field-size, negated-last}
+use Rattle.fxstages.proofs.domains.accepts.Statement.{statement}
+use Rattle.fxstages.proofs.domains.accepts.Tie as tie
 
 -- the domain that an arm of the match stands for
 arm : {d e : Domain} (w : ℕ) (xs : List ℤ) (x : ℤ) → d ≡ e → accepts e w xs x ≡ accepts d w xs x

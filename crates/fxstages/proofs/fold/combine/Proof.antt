@@ -1,4 +1,4 @@
--- `fxtable::fold::combine` meets its contract. Assumes nothing.
+-- `fxstages::fold::combine` meets its contract. Assumes nothing.
 use Prim.Native.Nat.{_<_, _^_}
 use mathlib.Core.Path.{_≡_, sym, ap, _∙_}
 use lib.IntN.{ℤ}
@@ -6,12 +6,12 @@ use lib.Signed.{mag}
 use mir.Syntax.{w64}
 use mir.Val.{toZ, ofZ}
 use Rattle.words.proofs.WordLaws.{back, back-word}
-use Rattle.fxtable.specs.declared.fold.Fold.{Fold}
+use Rattle.fxstages.specs.declared.fold.Fold.{Fold}
 use Rattle.fxtable.specs.Operations.{larger, smaller}
-use Rattle.fxtable.specs.Inner.{step}
+use Rattle.fxstages.specs.Inner.{step}
 use borrow.Author.Needs.{needs}
-use Rattle.fxtable.proofs.fold.combine.Statement.{statement}
-use Rattle.fxtable.proofs.fold.combine.Tie as tie
+use Rattle.fxstages.proofs.fold.combine.Statement.{statement}
+use Rattle.fxstages.proofs.fold.combine.Tie as tie
 
 -- a word that is the step of an arm of the match
 answer : (c : tie.Start) (z : ℤ) {fold : Fold} → c .args .fold ≡ fold → mag z < 2 ^ 63

@@ -11,17 +11,17 @@ use lib.Seq.{drop-cons, getD-take, length-take-le}
 use mir.Syntax.{w64}
 use mir.Val.{toZ, ofZ}
 use Rattle.bits.specs.Testbit.{fits}
 use Rattle.fxtable.specs.Domains.{arg}
 use Rattle.fxtable.specs.Operations.{every, foldFrom}
 use Rattle.bits.specs.Logical.{bitwise, bitwiseFrom}
 use Rattle.outcomes.specs.Outcome.{done}
 use Rattle.fxtable.specs.declared.answer.Answer.{Answer}
-use Rattle.fxtable.specs.declared.fold.Fold.{Fold}
+use Rattle.fxstages.specs.declared.fold.Fold.{Fold}
 use Rattle.fxtable.specs.Calls.{answer, counted, allFixnums, outcome}
-use Rattle.fxtable.specs.Inner.{step}
+use Rattle.fxstages.specs.Inner.{step}
 use Rattle.fxtable.specs.Table.{row, rowOf}
 use Rattle.fxtable.proofs.CallLaws.{done-word}
 use Rattle.fxtable.proofs.MeaningLaws.{every-outcome}
 use lib.Signed.{mag}
 
 module _ (xs : List ℤ) (n : ℕ) (four : length xs ≡ 4) (few : n ≤ 4) where

@@ -1,11 +1,11 @@
--- `fxtable::overflow::exact` meets its contract. Assumes nothing.
+-- `fxstages::overflow::exact` meets its contract. Assumes nothing.
 use mathlib.Core.Path.{refl, sym, _∙_}
 use native.Mathlib.Omega.{arith}
 use Rattle.widewords.proofs.WideLaws.{one-word, two-words-large}
 use Rattle.fxtable.proofs.CallLaws.{width-bounds, checked-cong, checked-large}
 use borrow.Author.Needs.{needs}
-use Rattle.fxtable.proofs.overflow.exact.Statement.{statement}
-use Rattle.fxtable.proofs.overflow.exact.Tie as tie
+use Rattle.fxstages.proofs.overflow.exact.Statement.{statement}
+use Rattle.fxstages.proofs.overflow.exact.Tie as tie
 
 returns : tie.Need-returns
 returns c =

@@ -13,14 +13,14 @@ use Rattle.bits.specs.Testbit.{isNegative, fits}
 use Rattle.bits.specs.Range.{within}
 use Rattle.bits.proofs.Booleans.{both-left, both-right}
 use Rattle.bits.proofs.IntegerLaws.{pos-sub-ge}
 use Rattle.fxtable.specs.declared.domains.Domain.{Domain}
 use Rattle.fxtable.specs.declared.domains.Domain.the-variants.{Divisor, Position, FieldEnd, NewBit, SignedDistance, Distance, Rotation}
 use Rattle.fxtable.specs.Domains.{arg, accepts}
 use Rattle.fxtable.specs.Table.{rowOf}
 use Rattle.fxtable.specs.Calls.{isCount}
 use Rattle.fxtable.specs.Inner.{Accepted}
 use Rattle.fxtable.proofs.CallLaws.{between, width-bounds, fits-arg}
-use Rattle.fxtable.proofs.DomainLaws.{domainOf, in-domains}
+use Rattle.fxstages.proofs.DomainLaws.{domainOf, in-domains}
 
 -- ---- numbers in a range
 

@@ -1,9 +1,9 @@
--- `fxtable::domains::is_rotation` meets its contract. Assumes nothing.
+-- `fxstages::domains::is_rotation` meets its contract. Assumes nothing.
 use Rattle.words.proofs.WordLaws.{back}
 use Rattle.bits.specs.Range.{within}
 use Rattle.bits.proofs.Booleans.{and-first, and-second}
-use Rattle.fxtable.proofs.domains.is_rotation.Statement.{statement}
-use Rattle.fxtable.proofs.domains.is_rotation.Tie as tie
+use Rattle.fxstages.proofs.domains.is_rotation.Statement.{statement}
+use Rattle.fxstages.proofs.domains.is_rotation.Tie as tie
 
 returns : tie.Need-returns
 unfolding within
