@@ -1,11 +1,14 @@
--- `within` is the order of the integers at both ends, each included: x is a plus a natural number, and b is x plus one. Assumes nothing.
-use Prim.Native.Nat.{ℕ}
+-- `within` is the order of the integers at both ends, each included: x is a plus a natural number, and b is x plus one. What a range says of its
+-- numbers; a field's start and end. Assumes nothing.
+use Prim.Native.Nat.{ℕ, zero, suc, _≤_}
 use mathlib.Core.Path.{_≡_, refl, sym, ap, ap₂, _∙_}
 use mathlib.Core.Bool.{Bool, true, false, _&&_}
 use native.Mathlib.Omega.{arith}
+use lib.Dec.{leb}
 use lib.IntN.{ℤ, pos, negsuc, negℤ, natAbs, _+ℤ_, +ℤ-idr}
 use lib.Signed.{leZ}
-use borrow.Author.Tests.{le-leb}
+use borrow.Author.Tests.{leb-true, le-leb}
+use Rattle.bits.specs.Testbit.{isNegative}
 use Rattle.bits.specs.Range.{within}
 use Rattle.bits.proofs.Booleans.{both-left, both-right}
 use Rattle.bits.proofs.IntegerLaws.{leZ-true, leZ-+ℤ, gap}
@@ -29,3 +32,29 @@ within-edges : (within (negsuc 1) (negsuc 2) (pos 3) ≡ false) × ((within (neg
     × ((within (negsuc 1) (pos 4) (pos 3) ≡ false) × (within (pos 1) (pos 0) (negsuc 0) ≡ false))))
 unfolding within
 within-edges = (refl, (refl, (refl, (refl, refl))))
+
+-- ---- numbers in a range
+
+pub natural-pos : (x : ℤ) → isNegative x ≡ false → pos (natAbs x) ≡ x
+unfolding isNegative
+natural-pos (pos n) h = refl
+natural-pos (negsuc n) h = let z : _≡_ {A = ℕ} 0 1 = cc in absurd (omega arith)
+
+pub within-pos : (s k : ℕ) (x : ℤ) → within (pos s) x (pos k) ≡ true → (isNegative x ≡ false) × (s ≤ natAbs x) × (natAbs x ≤ k)
+unfolding within isNegative
+within-pos s k (pos n) h = (refl, leb-true s n (both-left (leb s n) (leb n k) h), leb-true n k (both-right (leb s n) (leb n k) h))
+within-pos s k (negsuc n) h = let z : _≡_ {A = ℕ} 0 1 = cc in absurd (omega arith)
+
+pub within-both : (m : ℕ) (d : ℤ) → within (negℤ (pos m)) d (pos m) ≡ true → natAbs d ≤ m
+unfolding within
+within-both m (pos n) h = leb-true n m (both-right (leZ (negℤ (pos m)) (pos n)) (leb n m) h)
+within-both zero (negsuc n) h = let z : _≡_ {A = ℕ} 0 1 = cc in absurd (omega arith)
+within-both (suc m) (negsuc n) h = let l = leb-true n m (both-left (leb n m) true h) in omega arith
+
+-- the start and the end of a field, up to a last position
+pub within-field : (last : ℕ) (start end : ℤ) → within (pos 0) start (pos last) ≡ true → within start end (pos last) ≡ true
+    → (isNegative start ≡ false) × (isNegative end ≡ false) × (natAbs start ≤ natAbs end) × (natAbs end ≤ last)
+within-field last start end h k =
+    let s = within-pos 0 last start h in
+    let e = within-pos (natAbs start) last end (rw (natural-pos start (s .0)) k) in
+    (s .0, e .0, e .1, e .2)

@@ -25,7 +25,7 @@ use Rattle.outcomes.specs.Outcome.{done, refuse}
 use Rattle.outcomes.proofs.OutcomeLaws.{passed, failed}
 use Rattle.fxtable.proofs.CallLaws.{accepted, never-checked}
 use Rattle.fxtable.proofs.MeaningLaws.{every-outcome}
-use Rattle.fxstages.proofs.ArgumentLaws.{natural-pos, within-pos}
+use Rattle.bits.proofs.RangeLaws.{natural-pos, within-pos}
 
 -- which rotations are done, by their count
 pub by-count : (w start end : ℕ) → start ≤ end → (c : ℤ) → isDone w start end (rotate c) ≡ within (pos 0) c (pos (end - start))

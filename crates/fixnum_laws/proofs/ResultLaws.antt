@@ -22,13 +22,14 @@ use Rattle.bits.proofs.FitsLaws.{zero-fits, small-fits, bitLength-fits, bitCoun
 use Rattle.words.proofs.WordLaws.{fits-mag}
 use Rattle.words.proofs.SignedLaws.{natAbs-add, natAbs-sub, natAbs-mul}
 use Rattle.bits.specs.Range.{within}
+use Rattle.bits.proofs.RangeLaws.{within-field}
 use Rattle.fxtable.specs.declared.domains.Domain.{Domain}
 use Rattle.fxtable.specs.declared.domains.Domain.the-variants.{Fixnum, Divisor, Position, FieldEnd}
 use Rattle.fxtable.specs.Domains.{isWidth, arg, accepts, inDomainsFrom, inDomains}
 use Rattle.fxtable.specs.Operations.{resultsOf, every, one, two, three, four, question, truth, foldFrom, larger, smaller, largest, smallest, partsOf, carry, copyBitAt}
 use Rattle.fxtable.specs.Calls.{allFixnums}
 use Rattle.bits.proofs.Booleans.{both-left, both-right}
-use Rattle.fxtable.proofs.CallLaws.{between, width-bounds, arg-fits}
+use Rattle.fxtable.proofs.CallLaws.{width-bounds, arg-fits}
 use Rattle.fixnum_laws.proofs.Demand3.{all-fits}
 
 -- both results are fixnums
@@ -73,14 +74,6 @@ module _ (b : ℕ) (h : 4 ≤ b) (x y z : ℤ) (p : natAbs x ≤ b) (q : natAbs 
 
   product-le : natAbs ((x *ℤ y) +ℤ z) ≤ b * b + b
   product-le = omega (arith, natAbs-add (x *ℤ y) z, natAbs-mul x y, mul-le-mul p q)
-
--- ---- the end of a field
-
-end-le : (k : ℕ) (s e : ℤ) → within (pos 0) s (pos k) ≡ true → within s e (pos k) ≡ true → natAbs e ≤ k
-unfolding within
-end-le k (pos a) (pos b) h l = between a b k l .1
-end-le k (pos a) (negsuc b) h l = let z : _≡_ {A = ℕ} 0 1 = cc in absurd (omega arith)
-end-le k (negsuc a) e h l = let z : _≡_ {A = ℕ} 0 1 = cc in absurd (omega arith)
 
 module _ {w : ℕ} {xs : List ℤ} (g : Fixnums w xs) where
   wide : 24 ≤ w
@@ -192,8 +185,9 @@ module _ {w : ℕ} {xs : List ℤ} (g : Fixnums w xs) where
     unfolding inDomains inDomainsFrom accepts
     end-below =
         let rest = both-right (within (pos 0) (arg xs 1) (pos (w - 1))) _ d in
-        end-le (w - 1) (arg xs 1) (arg xs 2) (both-left (within (pos 0) (arg xs 1) (pos (w - 1))) _ d)
+        within-field (w - 1) (arg xs 1) (arg xs 2) (both-left (within (pos 0) (arg xs 1) (pos (w - 1))) _ d)
         (both-left (within (arg xs 1) (arg xs 2) (pos (w - 1))) (inDomainsFrom 3 ds w xs) rest)
+        .3
 
     set-field-fits : (new : ℕ → Bool) → fits w (setField (arg xs 0) (natAbs (arg xs 1)) (natAbs (arg xs 2)) new) ≡ true
     set-field-fits new = setField-fits w positive (arg xs 0) (natAbs (arg xs 1)) (natAbs (arg xs 2)) end-below new (at 0)

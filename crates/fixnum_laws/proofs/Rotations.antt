@@ -16,6 +16,7 @@ use Rattle.bits.specs.Field.{rotateBitField}
 use Rattle.bits.specs.FieldList.{rotate}
 use Rattle.bits.proofs.Booleans.{all₃, and-false, and-swap, both-left, both-right}
 use Rattle.bits.proofs.IntegerLaws.{pos-sub-ge}
+use Rattle.bits.proofs.RangeLaws.{natural-pos, within-field}
 use Rattle.bits.proofs.RotateLaws.{rotate-full}
 use Rattle.outcomes.specs.Outcome.{Outcome, done, refuse, guard, guardAt}
 use Rattle.outcomes.proofs.OutcomeLaws.{passed, failed}
@@ -26,7 +27,6 @@ use Rattle.fxtable.specs.Table.{rows, isCode, rowOf}
 use Rattle.fxtable.specs.Calls.{answer, counted, isCount, allFixnums, outcome, fixnumAnswer}
 use Rattle.fxtable.proofs.CallLaws.{arg-exactly}
 use Rattle.fxtable.proofs.MeaningLaws.{every-outcome}
-use Rattle.fxstages.proofs.ArgumentLaws.{natural-pos, within-pos}
 use Rattle.fixnum_laws.specs.Lists.{answerOf, isDone}
 use Rattle.fixnum_laws.specs.Rotations.{legalField, belowSize, isSize, strictAnswer, isFullRotation}
 use Rattle.fixnum_laws.proofs.AnswerLaws.{by-count, count-done, rotate-answer, rotate-no-fixnum, rotate-out-of-domain}
@@ -113,15 +113,14 @@ module _ (w : ℕ) (args : List ℤ) (n : ℕ) where
   sized : legalField w xs ≡ true → Sized
   unfolding legalField inDomains inDomainsFrom accepts
   sized h =
-      let s = within-pos 0 (w - 1) (arg xs 1) (both-left (within (pos 0) (arg xs 1) (pos (w - 1))) _ h) in
       let k = both-left (within (arg xs 1) (arg xs 2) (pos (w - 1))) true (both-right (within (pos 0) (arg xs 1) (pos (w - 1))) _ h) in
-      let e = within-pos (natAbs (arg xs 1)) (w - 1) (arg xs 2) (rw (natural-pos (arg xs 1) (s .0)) k) in
+      let f = within-field (w - 1) (arg xs 1) (arg xs 2) (both-left (within (pos 0) (arg xs 1) (pos (w - 1))) _ h) k in
       record {
         start = natAbs (arg xs 1);
         end = natAbs (arg xs 2);
-        start-is = sym (natural-pos (arg xs 1) (s .0));
-        end-is = sym (natural-pos (arg xs 2) (e .0));
-        ordered = e .1;
+        start-is = sym (natural-pos (arg xs 1) (f .0));
+        end-is = sym (natural-pos (arg xs 2) (f .1));
+        ordered = f .2;
       }
 
   module _ (b : isCount 40 n ≡ true) (h : legalField w xs ≡ true) where

@@ -4,6 +4,7 @@
 --   handOn a x                     ==  what the next call gets: the first result, or x where the answer a is a refusal
 --   runAll w start end calls x     ==  the number at the end of the list, from x
 --   isDone w start end call        ==  which calls are done, by 01's refusal table: a rotate whose count lies in its domain, a reverse
+--   countFits w call               ==  whether the count of a rotate is a fixnum; a reverse has none
 --   refusalTo w start end call     ==  0 for a call that is done; else 4 where its count is no fixnum, and 5 where it is one
 --   turned w start end calls x     ==  x, or code 41's answer to it where the done reversals are odd in number
 --   Gives w start end calls x y    ==  each call of the list, from x, is done and gets the result of the one before; the last result is y

@@ -1,6 +1,7 @@
 -- Code 40 beside R6RS's own rule for its count, which is below the size of the field. Code 40 takes one count more: the size.
 --   legalField w xs                ==  whether arguments 1 and 2 are the start and the end of a field at the width
 --   belowSize xs                   ==  R6RS's rule: 0 <= count < end - start
+--   isSize xs                      ==  whether the count is end - start
 --   strictAnswer w args n          ==  what code 40 would answer under that rule
 --   isFullRotation w args n        ==  whether a call of code 40, of fixnums and a field at the width, has the count end - start
 use Prim.Native.Nat.{ℕ}

@@ -1,18 +1,16 @@
 -- What an accepted call says of its arguments, from the domains of its code. Assumes nothing.
-use Prim.Native.Nat.{ℕ, zero, suc, _-_, _≤_, _<_}
+use Prim.Native.Nat.{ℕ, _-_, _≤_, _<_}
 use native.Mathlib.Nat.{lt-of-lt-of-le}
 use native.Mathlib.Omega.{arith}
-use mathlib.Core.Path.{_≡_, refl, sym, _∙_, subst}
+use mathlib.Core.Path.{_≡_, sym, _∙_, subst}
 use mathlib.Core.Bool.{Bool, true, false, _&&_}
 use mathlib.Core.List.{List}
-use lib.Dec.{leb}
-use lib.IntN.{ℤ, pos, negsuc, negℤ, natAbs}
-use lib.Signed.{leZ}
-use borrow.Author.Tests.{leb-true, ltb-true}
+use lib.IntN.{ℤ, natAbs}
+use borrow.Author.Tests.{ltb-true}
 use Rattle.bits.specs.Testbit.{isNegative, fits}
-use Rattle.bits.specs.Range.{within}
 use Rattle.bits.proofs.Booleans.{both-left, both-right}
 use Rattle.bits.proofs.IntegerLaws.{pos-sub-ge}
+use Rattle.bits.proofs.RangeLaws.{natural-pos, within-pos, within-both, within-field}
 use Rattle.fxtable.specs.declared.domains.Domain.{Domain}
 use Rattle.fxtable.specs.declared.domains.Domain.the-variants.{Divisor, Position, FieldEnd, NewBit, SignedDistance, Distance, Rotation}
 use Rattle.fxtable.specs.Domains.{arg, accepts}
@@ -21,26 +19,6 @@ use Rattle.fxtable.specs.Calls.{isCount}
 use Rattle.fxtable.specs.Inner.{Accepted}
 use Rattle.fxtable.proofs.CallLaws.{between, width-bounds, fits-arg}
 use Rattle.fxstages.proofs.DomainLaws.{domainOf, in-domains}
-
--- ---- numbers in a range
-
-pub natural-pos : (x : ℤ) → isNegative x ≡ false → pos (natAbs x) ≡ x
-unfolding isNegative
-natural-pos (pos n) h = refl
-natural-pos (negsuc n) h = let z : _≡_ {A = ℕ} 0 1 = cc in absurd (omega arith)
-
-pub within-pos : (s k : ℕ) (x : ℤ) → within (pos s) x (pos k) ≡ true → (isNegative x ≡ false) × (s ≤ natAbs x) × (natAbs x ≤ k)
-unfolding within isNegative
-within-pos s k (pos n) h = let b = between s n k h in (refl, b .0, b .1)
-within-pos s k (negsuc n) h = let z : _≡_ {A = ℕ} 0 1 = cc in absurd (omega arith)
-
-within-both : (m : ℕ) (d : ℤ) → within (negℤ (pos m)) d (pos m) ≡ true → natAbs d ≤ m
-unfolding within
-within-both m (pos n) h = leb-true n m (both-right (leZ (negℤ (pos m)) (pos n)) (leb n m) h)
-within-both zero (negsuc n) h = let z : _≡_ {A = ℕ} 0 1 = cc in absurd (omega arith)
-within-both (suc m) (negsuc n) h = let l = leb-true n m (both-left (leb n m) true h) in omega arith
-
--- ---- the arguments of a call
 
 -- a field's start and end are arguments 1 and 2
 pub record FieldArguments (xs : List ℤ) : Type 0 where
@@ -96,9 +74,8 @@ module _ {w code : ℕ} {xs : List ℤ} {n : ℕ} (a : Accepted w code xs n) whe
   pub field : domainOf code 1 ≡ Position → domainOf code 2 ≡ FieldEnd → FieldArguments xs
   unfolding accepts
   field p q =
-      let s = within-pos 0 (w - 1) (arg xs 1) (second p) in
-      let e = within-pos (natAbs (arg xs 1)) (w - 1) (arg xs 2) (rw (natural-pos (arg xs 1) (s .0)) (third q)) in
-      record { start = s .0; end = e .0; ordered = e .1; below = omega (arith, bounds, e .2) }
+      let f = within-field (w - 1) (arg xs 1) (arg xs 2) (second p) (third q) in
+      record { start = f .0; end = f .1; ordered = f .2; below = omega (arith, bounds, f .3) }
 
   pub rotation : FieldArguments xs → domainOf code 3 ≡ Rotation
       → (isNegative (arg xs 3) ≡ false) × (natAbs (arg xs 3) ≤ natAbs (arg xs 2) - natAbs (arg xs 1))

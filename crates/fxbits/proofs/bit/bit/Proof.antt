@@ -19,7 +19,8 @@ use Rattle.fxtable.specs.Table.{rows, rowOf}
 use Rattle.fxtable.proofs.CallLaws.{width-bounds, done-cong, done-word, never-checked}
 use Rattle.fxtable.proofs.MeaningLaws.{two-outcome, three-outcome}
 use Rattle.fxstages.proofs.DomainLaws.{domainOf}
-use Rattle.fxstages.proofs.ArgumentLaws.{natural-pos, fixnum-at, new-bit}
+use Rattle.fxstages.proofs.ArgumentLaws.{fixnum-at, new-bit}
+use Rattle.bits.proofs.RangeLaws.{natural-pos}
 use Rattle.fxbits.proofs.FieldLaws.{position-call, copy-below, copy-sign}
 use Rattle.fxbits.proofs.bit.bit.Statement.{statement}
 use Rattle.fxbits.proofs.bit.bit.Tie as tie

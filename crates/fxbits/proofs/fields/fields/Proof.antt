@@ -15,7 +15,8 @@ use Rattle.fxtable.specs.Table.{rows, rowOf}
 use Rattle.fxtable.proofs.CallLaws.{done-never}
 use Rattle.fxtable.proofs.MeaningLaws.{three-outcome, four-outcome}
 use Rattle.fxstages.proofs.DomainLaws.{domainOf}
-use Rattle.fxstages.proofs.ArgumentLaws.{natural-pos, rotation}
+use Rattle.fxstages.proofs.ArgumentLaws.{rotation}
+use Rattle.bits.proofs.RangeLaws.{natural-pos}
 use Rattle.fxbits.proofs.FieldLaws.{field-call, field-lt, field-word}
 use Rattle.fxbits.proofs.fields.fields.Statement.{statement}
 use Rattle.fxbits.proofs.fields.fields.Tie as tie
