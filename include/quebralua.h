@@ -18,6 +18,10 @@
    1, 7, 6; fixnum to limbs 1, 4, 8. A refused call answers 0 for every result and length, and writes no limb of the
    output buffer.
 
+   The `place` of a fixnum answer says which argument refusal 4 or 5 is about, 1 for a to 4 for d. For 4 it is the first
+   counted argument that is not a fixnum; for 5 the first, left to right, that is outside its domain, given those before
+   it: an end is tested against the start. It is 0 in every other answer, and where 5 is about the result of fx-.
+
    What a caller owes:
    - Each operand pointer is valid for reading its length in limbs, and `out` for writing `nout` limbs. NULL is fine
      where the length is 0.
@@ -34,7 +38,8 @@
 extern "C" {
 #endif
 
-typedef struct { uint64_t refusal; int64_t first; int64_t second; } ql_fixnum_answer;
+/* `place` is the number of the argument that refusal 4 or 5 is about, or 0. */
+typedef struct { uint64_t refusal; int64_t first; int64_t second; uint64_t place; } ql_fixnum_answer;
 typedef struct { uint64_t refusal; uint64_t length; } ql_written;
 typedef struct { uint64_t refusal; int64_t value; } ql_value;
 

@@ -18,13 +18,25 @@ pub enum Refusal {
     Room = 8,
 }
 
-/// The answer of a fixnum call. Refusal 0 is done; an operation with one result has 0 in `second`.
+/// The answer of a fixnum call. Refusal 0 is done; an operation with one result has 0 in `second`. The place is that of
+/// `FixnumRefusal`, or 0 for none.
 #[derive(Clone, Copy, Debug, PartialEq, Eq)]
 #[repr(C)]
 pub struct FixnumAnswer {
     pub refusal: u64,
     pub first: i64,
     pub second: i64,
+    pub place: u64,
+}
+
+/// Why a fixnum call is refused, and for which argument.
+#[derive(Clone, Copy, Debug, PartialEq, Eq)]
+pub struct FixnumRefusal {
+    pub refusal: Refusal,
+    /// The number of the argument, 1 to 4. With `NotFixnum` it is the first that is no fixnum; with `Domain` the first,
+    /// left to right, that is outside its domain, given those before it: an end is tested against the start. None where
+    /// no argument alone is the reason: every other refusal, and `Domain` where the result of fx- is no fixnum.
+    pub place: Option<u64>,
 }
 
 /// The answer of a call that writes limbs: how many it wrote from the first limb on. Refusal 0 is done.
@@ -53,11 +65,19 @@ impl Refusal {
 }
 
 impl FixnumAnswer {
-    pub fn result(self) -> Result<(i64, i64), Refusal> {
+    pub fn result(self) -> Result<(i64, i64), FixnumRefusal> {
+        let place = (self.place != 0).then_some(self.place);
         match self.refusal {
             0 => Ok((self.first, self.second)),
-            number => Err(Refusal::from_number(number)),
+            number => Err(FixnumRefusal { refusal: Refusal::from_number(number), place }),
         }
+    }
+}
+
+/// So that `?` serves every call where the place is not needed.
+impl From<FixnumRefusal> for Refusal {
+    fn from(refused: FixnumRefusal) -> Refusal {
+        refused.refusal
     }
 }
 
@@ -79,9 +99,9 @@ impl Value {
     }
 }
 
-/// The operation with this code on the first `count` of the places.
-pub fn fixnum(width: u64, code: u64, count: u64, places: [i64; 4]) -> FixnumAnswer {
-    let [a, b, c, d] = places;
+/// The operation with this code on the first `count` of the arguments.
+pub fn fixnum(width: u64, code: u64, count: u64, args: [i64; 4]) -> FixnumAnswer {
+    let [a, b, c, d] = args;
     unsafe { ql_fixnum(width, code, count, a, b, c, d) }
 }
 

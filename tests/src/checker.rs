@@ -10,7 +10,8 @@ use crate::report::difference;
 use crate::tally::Tally;
 use quebralua_reference::call::{FixnumCall, LimbCall};
 use quebralua_reference::random::Random;
-use quebralua_reference::reference::{fixnum::fixnum, output::write};
+use quebralua_reference::reference::fixnum::{fixnum, Answer};
+use quebralua_reference::reference::output::write;
 
 /// Limbs on either side of an output buffer, which no call may change.
 const GUARD: usize = 8;
@@ -35,8 +36,8 @@ impl Checker {
     }
 
     pub fn fixnum(&mut self, call: FixnumCall) -> FixnumAnswer {
-        let (refusal, first, second) = fixnum(call.width, call.code, call.args, call.count);
-        let expected = FixnumAnswer { refusal, first, second };
+        let Answer { refusal, first, second, place } = fixnum(call.width, call.code, call.args, call.count);
+        let expected = FixnumAnswer { refusal, first, second, place };
         if self.trace {
             println!("{}", call.as_c());
         }
@@ -44,7 +45,7 @@ impl Checker {
         if got != expected {
             difference(&call.as_c(), &format!("{expected:?}"), &format!("{got:?}"));
         }
-        self.tally.fixnum(call.code, refusal);
+        self.tally.fixnum(call.code, refusal, place);
         got
     }
 

@@ -3,6 +3,7 @@
 
 pub mod batch;
 pub mod call;
+pub mod fixnum_answers;
 pub mod fixnum_arguments;
 pub mod operation;
 pub mod random;

@@ -1,5 +1,5 @@
 //! Compares the C library with the second implementation: every edge of the rules, random calls, and lists of calls.
-//! Ends with status 1 at the first difference, and where some operation or refusal was never seen.
+//! Ends with status 1 at the first difference, and where some operation, refusal or place was never seen.
 
 mod binding;
 mod buffer;

@@ -1,32 +1,33 @@
 //! How many calls of each operation were compared, and how they were answered.
 
+use quebralua_reference::fixnum_answers::fixnum_answers;
 use quebralua_reference::operation::{Operation, FIXNUM_NAMES};
 use std::fmt;
 
-/// The answers of one operation: done, then refused by number.
-type Counts = [u64; 9];
+/// The answers of one operation, by refusal number, 0 for done, and by place. A limb call has place 0.
+type Counts = [[u64; 5]; 9];
 
 pub struct Tally {
-    /// By code; place 0 is for every code that is not 1 to 41.
+    /// By code; row 0 is for every code that is not 1 to 41.
     fixnum: [Counts; 42],
-    /// By place in `Operation::ALL`.
+    /// In the order of `Operation::ALL`.
     limbs: [Counts; Operation::ALL.len()],
     total: u64,
 }
 
 impl Tally {
     pub fn new() -> Tally {
-        Tally { fixnum: [[0; 9]; 42], limbs: [[0; 9]; Operation::ALL.len()], total: 0 }
+        Tally { fixnum: [[[0; 5]; 9]; 42], limbs: [[[0; 5]; 9]; Operation::ALL.len()], total: 0 }
     }
 
-    pub fn fixnum(&mut self, code: u64, refusal: u64) {
+    pub fn fixnum(&mut self, code: u64, refusal: u64, place: u64) {
         let row = if code <= 41 { code as usize } else { 0 };
-        self.fixnum[row][refusal as usize] += 1;
+        self.fixnum[row][refusal as usize][place as usize] += 1;
         self.total += 1;
     }
 
     pub fn limbs(&mut self, operation: Operation, refusal: u64) {
-        self.limbs[operation as usize][refusal as usize] += 1;
+        self.limbs[operation as usize][refusal as usize][0] += 1;
         self.total += 1;
     }
 
@@ -38,34 +39,32 @@ impl Tally {
     pub fn missing(&self) -> Vec<String> {
         let mut missing = Vec::new();
         for (name, counts, possible) in self.rows() {
-            for &answer in possible {
-                if counts[answer as usize] == 0 {
-                    missing.push(format!("{name}: no call with refusal {answer}"));
+            for (refusal, place) in possible {
+                if counts[refusal as usize][place as usize] == 0 {
+                    missing.push(format!("{name}: no call with refusal {}", shown(refusal, place)));
                 }
             }
         }
         missing
     }
 
-    /// The name of each operation, its counts, and the answers that are possible, 0 for done.
-    fn rows(&self) -> impl Iterator<Item = (&str, &Counts, &'static [u64])> {
-        let unknown = std::iter::once(("(no such code)", &self.fixnum[0], &[1, 2][..]));
-        let fixnum = (1..=41).map(|code| (FIXNUM_NAMES[code - 1], &self.fixnum[code], fixnum_answers(code)));
+    /// The name of each operation, its counts, and the refusal numbers that are possible, 0 for done, with their places.
+    fn rows(&self) -> impl Iterator<Item = (&str, &Counts, Vec<(u64, u64)>)> {
+        let unknown = std::iter::once(("(no such code)", &self.fixnum[0], vec![(1, 0), (2, 0)]));
+        let fixnum = (1..=41).map(|code| (FIXNUM_NAMES[code - 1], &self.fixnum[code], fixnum_answers(code as u64)));
         let limbs = Operation::ALL.iter().map(|&operation| {
             let counts = &self.limbs[operation as usize];
-            (operation.name(), counts, limb_answers(operation))
+            (operation.name(), counts, limb_answers(operation).iter().map(|&refusal| (refusal, 0)).collect())
         });
         unknown.chain(fixnum).chain(limbs)
     }
 }
 
-/// The answers that a fixnum code can give.
-fn fixnum_answers(code: usize) -> &'static [u64] {
-    match code {
-        13 | 14 => &[0, 1, 3, 4, 6],
-        16 | 18 | 19 | 21 | 37 | 38 => &[0, 1, 3, 4, 5, 6],
-        15 | 17 | 20 | 33..=36 | 39..=41 => &[0, 1, 3, 4, 5],
-        _ => &[0, 1, 3, 4],
+/// A refusal number and its place, if there is one.
+fn shown(refusal: u64, place: u64) -> String {
+    match place {
+        0 => refusal.to_string(),
+        _ => format!("{refusal}/{place}"),
     }
 }
 
@@ -85,11 +84,11 @@ fn limb_answers(operation: Operation) -> &'static [u64] {
 
 impl fmt::Display for Tally {
     fn fmt(&self, f: &mut fmt::Formatter) -> fmt::Result {
-        writeln!(f, "{:28}{:>10}{:>10}  refused by number", "operation", "compared", "done")?;
+        writeln!(f, "{:28}{:>10}{:>10}  refused by number, or number/place", "operation", "compared", "done")?;
         for (name, counts, possible) in self.rows() {
-            write!(f, "{name:28}{:>10}{:>10} ", counts.iter().sum::<u64>(), counts[0])?;
-            for &refusal in possible.iter().filter(|&&answer| answer != 0) {
-                write!(f, " {refusal}: {:<9}", counts[refusal as usize])?;
+            write!(f, "{name:28}{:>10}{:>10} ", counts.iter().flatten().sum::<u64>(), counts[0][0])?;
+            for (refusal, place) in possible.into_iter().filter(|&(refusal, _)| refusal != 0) {
+                write!(f, " {}: {:<9}", shown(refusal, place), counts[refusal as usize][place as usize])?;
             }
             writeln!(f)?;
         }

@@ -39,9 +39,9 @@ given (fixnum w code xs refusal first second) = answered (fixnumAnswer w code xs
 given (writes outcome xs) = wrote (written outcome (7 ∷ sevens) 1) (afterwards (stored outcome (7 ∷ sevens) 1) (7 ∷ sevens) 1)
 given (counts outcome n) = counted (number outcome)
 
--- The limbs before a result and after it stay the same.
+-- No row is refused for an argument. The limbs before a result and after it stay the same.
 unfoldable pub stated : Row → Reply
-stated (fixnum w code xs refusal first second) = answered (record { refusal = refusal; first = first; second = second })
+stated (fixnum w code xs refusal first second) = answered (record { refusal = refusal; first = first; second = second; place = 0 })
 stated (writes outcome xs) = wrote (record { refusal = 0; length = length xs }) (7 ∷ xs ++ drop (length xs) sevens)
 stated (counts outcome n) = counted (record { refusal = 0; value = n })
 

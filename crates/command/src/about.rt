@@ -1,14 +1,12 @@
 // `help`: what the command and each operation do.
 ghost use Rattle.io.specs.Counts.{Counts};
-use fxcalls::explain::put_domains;
-use fxcalls::explain::takes_any;
+use fxcalls::domains::put_domains;
 use fxcalls::fx::reply_fx;
-use fxtable::table::Signature;
 use fxtable::table::signature_of;
 use limbcalls::bitwise::reply_bitwise;
 use limbcalls::rules::arity;
-use limbcalls::rules::numbers_of;
-use limbcalls::rules::put_domain;
+use limbcalls::rules::likeness;
+use limbcalls::rules::put_bitwise_domains;
 use line::count;
 use line::is_word;
 use line::number::line_of;
@@ -28,11 +26,6 @@ use names::put_name;
 use output::put;
 use output::put_natural;
 
-// The fixnum operation that a bitwise operation is at every width: its code, from the number of the bitwise one.
-fn likeness(index: u64) -> u64 {
-    if index <= 17 { index + 24 } else { 0 }
-}
-
 // The line of an operation, and its meaning.
 fn put_definition(table: Table, number: u64, code: u64, out: &mut [u8]) -> usize {
     let at = put_entry(table, number, out, 0);
@@ -49,35 +42,23 @@ fn put_example(command: &[u8], table: Table, number: u64, code: u64, out: &mut [
     put_sample(code, out, at)
 }
 
-// How many arguments a fixnum operation takes, and their domains.
-fn put_signature(signature: Signature, out: &mut [u8], at: usize) -> usize {
-    let at = put_counts(signature.least, signature.most, out, at);
-    if takes_any(signature) {
-        return put(b"\n", out, at);
-    }
-    let at = put(b"; ", out, at);
-    let at = put_domains(signature, out, at);
-    put(b"\n", out, at)
-}
-
 fn put_fixnum_help(code: u64, out: &mut [u8]) -> usize {
+    let signature = signature_of(code);
     let at = put_definition(Table::Fixnum, code, code, out);
     let at = put(b"code ", out, at);
     let at = put_natural(code, out, at);
     let at = put(b", ", out, at);
-    put_signature(signature_of(code), out, at)
+    let at = put_counts(signature.least, signature.most, out, at);
+    let at = put(b"\n", out, at);
+    put_domains(code, out, at)
 }
 
 fn put_bitwise_help(index: u64, out: &mut [u8]) -> usize {
     let n = arity(index) as u64;
     let at = put_definition(Table::Bitwise, index, likeness(index), out);
     let at = put_counts(n, n, out, at);
-    if numbers_of(index) == 0 || index == 13 {
-        return put(b"\n", out, at);
-    }
-    let at = put(b"; ", out, at);
-    let at = put_domain(index, out, at);
-    put(b"\n", out, at)
+    let at = put(b"\n", out, at);
+    put_bitwise_domains(index, out, at)
 }
 
 fn put_answer(line: &[u8], out: &mut [u8]) -> usize

@@ -5,8 +5,8 @@ ghost use Rattle.fxtable.specs.Calls.{fixnumAnswer};
 mod dispatch;
 
 use dispatch::operate;
-use fxstages::domains::in_domains;
-use fxstages::fixnums::all_fixnums;
+use fxstages::domains::first_outside;
+use fxstages::fixnums::first_not_fixnum;
 use fxtable::answer::Answer;
 use fxtable::answer::refuse;
 use fxtable::table::is_code;
@@ -15,24 +15,26 @@ use fxtable::width::is_width;
 
 // The answer of the operation with a code, at a width, to the first `count` elements of `args`. Refusals in this order: 1 for the
 // width, 2 for the code, 3 for the count, 4 for an argument that is no fixnum, 5 for one outside its domain, 6 for a result
-// that is no fixnum (5 for fx-).
+// that is no fixnum (5 for fx-). The place, with 4 and 5, is that of the first such argument, counted from 1; else it is 0.
 pub fn call(width: u64, code: u64, args: [i64; 4], count: u64) -> Answer
     ensures { λ r. ⌜ r ≡ fixnumAnswer width code args count ⌝ }
 {
     if !is_width(width) {
-        return refuse(1);
+        return refuse(1, 0);
     }
     if !is_code(code) {
-        return refuse(2);
+        return refuse(2, 0);
     }
     if !is_count(code, count) {
-        return refuse(3);
+        return refuse(3, 0);
     }
-    if !all_fixnums(width, args, count) {
-        return refuse(4);
+    let place = first_not_fixnum(width, args, count);
+    if place != 0 {
+        return refuse(4, place);
     }
-    if !in_domains(width, code, args, count) {
-        return refuse(5);
+    let place = first_outside(width, code, args, count);
+    if place != 0 {
+        return refuse(5, place);
     }
     operate(width, code, args, count)
 }

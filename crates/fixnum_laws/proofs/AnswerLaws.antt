@@ -13,19 +13,20 @@ use Rattle.bits.proofs.FitsLaws.{lt-two-pow}
 use Rattle.bits.specs.Testbit.{fits}
 use Rattle.bits.specs.Field.{rotateBitField, reverseBitField}
 use Rattle.bits.proofs.IntegerLaws.{pos-sub-ge}
-use Rattle.fxtable.specs.Calls.{answer, counted, isCount, allFixnums, outcome, fixnumAnswer}
+use Rattle.fxtable.specs.Calls.{answer, counted, isCount, fixnumTests, allFixnums, outcome, fixnumAnswer}
 use Rattle.bits.specs.Range.{within}
-use Rattle.fxtable.specs.Domains.{isWidth, arg, accepts, inDomainsFrom, inDomains}
+use Rattle.fxtable.specs.Domains.{isWidth, arg, accepts, domainTestsFrom, domainTests, inDomains}
 use Rattle.fxtable.specs.Operations.{resultsOf, every, one}
 use Rattle.fxtable.specs.Table.{row, rows, isCode, rowOf}
 use Rattle.bits.specs.FieldList.{rotate}
 use Rattle.fixnum_laws.specs.Lists.{answerOf, isDone}
-use Rattle.bits.proofs.Booleans.{and-true}
-use Rattle.outcomes.specs.Outcome.{done, refuse}
-use Rattle.outcomes.proofs.OutcomeLaws.{passed, failed}
+use Rattle.outcomes.specs.Outcome.{Outcome, refused, done, guardAt}
+use Rattle.outcomes.proofs.OutcomeLaws.{passed}
+use Rattle.outcomes.proofs.TestLaws.{passed-each}
 use Rattle.fxtable.proofs.CallLaws.{accepted, never-checked}
 use Rattle.fxtable.proofs.MeaningLaws.{every-outcome}
 use Rattle.bits.proofs.RangeLaws.{natural-pos, within-pos}
+use Rattle.outcomes.specs.Tests.{allHold, firstFailedFrom, firstFailed, guardEach}
 
 -- which rotations are done, by their count
 pub by-count : (w start end : ℕ) → start ≤ end → (c : ℤ) → isDone w start end (rotate c) ≡ within (pos 0) c (pos (end - start))
@@ -35,6 +36,16 @@ by-count w start end h c = rw (pos-sub-ge end start h)
 pub count-done : (w start end : ℕ) → start ≤ end → (c : ℕ) → c ≤ end - start → isDone w start end (rotate (pos c)) ≡ true
 unfolding within
 count-done w start end h c l = by-count w start end h (pos c) ∙ rw (le-leb 0 c zero-le, le-leb c (end - start) l)
+
+-- ---- four tests of which the first three hold
+
+fourth-holds : {ts : List Bool} {t : Bool} → ts ≡ true ∷ true ∷ true ∷ t ∷ [] → t ≡ true → allHold ts ≡ true
+unfolding allHold
+fourth-holds e h = rw (e, h)
+
+pub fourth-fails : {A : Type 0} {ts : List Bool} {t : Bool} (k : ℕ) (o : Outcome A) → ts ≡ true ∷ true ∷ true ∷ t ∷ [] → t ≡ false → guardEach ts k o ≡ refused k 4
+unfolding guardEach guardAt allHold firstFailed firstFailedFrom
+fourth-fails k o e h = rw (e, h)
 
 -- ---- the field operations
 
@@ -46,7 +57,7 @@ module _ (w : ℕ) (a : isWidth w ≡ true) where
 
   module _ (x : ℤ) (start end : ℕ) (f : fits w x ≡ true) (h : start ≤ end) (k : end ≤ w - 1) where
     field-fixnums : (xs : List ℤ) → allFixnums w (x ∷ pos start ∷ pos end ∷ xs) ≡ allFixnums w xs
-    unfolding allFixnums
+    unfolding allFixnums fixnumTests allHold
     field-fixnums xs = rw (f, position-fits start (le-trans h k), position-fits end k)
 
     start-in : within (pos 0) (pos start) (pos (w - 1)) ≡ true
@@ -58,11 +69,11 @@ module _ (w : ℕ) (a : isWidth w ≡ true) where
     end-in = rw (le-leb start end h, le-leb end (w - 1) k)
 
     none : allFixnums w [] ≡ true
-    unfolding allFixnums
+    unfolding allFixnums fixnumTests allHold
     none = refl
 
     pub reverse-answer : answerOf w 41 (x ∷ pos start ∷ pos end ∷ []) ≡ answer (done (reverseBitField x start end, pos 0))
-    unfolding answerOf counted isCode isCount rowOf rows inDomains inDomainsFrom accepts arg outcome resultsOf
+    unfolding answerOf counted isCode isCount rowOf rows inDomains domainTests domainTestsFrom accepts arg outcome resultsOf allHold
     reverse-answer =
         accepted w 41 (x ∷ pos start ∷ pos end ∷ []) 3 refl
         (record { width = a; arity = refl; fixnums = field-fixnums [] ∙ none; domains = rw (start-in, end-in) })
@@ -75,30 +86,32 @@ module _ (w : ℕ) (a : isWidth w ≡ true) where
           let n = within-pos 0 (end - start) c (sym (by-count w start end h c) ∙ d) in
           subst (λ (z : ℤ). fits w z ≡ true) (natural-pos c (n .0)) (position-fits (natAbs c) (omega (arith, n .2)))
 
-      rotate-fixnums : allFixnums w (x ∷ pos start ∷ pos end ∷ c ∷ []) ≡ fits w c
-      unfolding allFixnums
-      rotate-fixnums = field-fixnums (c ∷ []) ∙ and-true (fits w c)
+      -- the tests of its arguments: only the count's is open
+      rotate-fixnums : fixnumTests w (x ∷ pos start ∷ pos end ∷ c ∷ []) ≡ true ∷ true ∷ true ∷ fits w c ∷ []
+      unfolding fixnumTests
+      rotate-fixnums = rw (f, position-fits start (le-trans h k), position-fits end k)
 
-      rotate-domains : inDomains (rowOf 40 .domains) w (x ∷ pos start ∷ pos end ∷ c ∷ []) ≡ isDone w start end (rotate c)
-      unfolding rowOf rows inDomains inDomainsFrom accepts arg isDone
-      rotate-domains = rw (start-in, end-in, and-true)
+      rotate-domains : domainTests (rowOf 40 .domains) w (x ∷ pos start ∷ pos end ∷ c ∷ []) ≡ true ∷ true ∷ true ∷ isDone w start end (rotate c) ∷ []
+      unfolding rowOf rows domainTests domainTestsFrom accepts arg isDone
+      rotate-domains = rw (start-in, end-in)
 
       pub rotate-answer : isDone w start end (rotate c) ≡ true
           → answerOf w 40 (x ∷ pos start ∷ pos end ∷ c ∷ []) ≡ answer (done (rotateBitField x start end c, pos 0))
-      unfolding answerOf counted isCode isCount rowOf rows outcome resultsOf arg
+      unfolding answerOf counted isCode isCount rowOf rows outcome resultsOf arg allFixnums inDomains
       rotate-answer d =
           accepted w 40 (x ∷ pos start ∷ pos end ∷ c ∷ []) 4 refl
-          (record { width = a; arity = refl; fixnums = rotate-fixnums ∙ count-fits d; domains = rotate-domains ∙ d })
+          (record { width = a; arity = refl; fixnums = fourth-holds rotate-fixnums (count-fits d); domains = fourth-holds rotate-domains d })
           ∙ sym (never-checked w (rotateBitField x start end c, pos 0))
 
-      pub rotate-no-fixnum : fits w c ≡ false → answerOf w 40 (x ∷ pos start ∷ pos end ∷ c ∷ []) ≡ answer (refuse 4)
+      pub rotate-no-fixnum : fits w c ≡ false → answerOf w 40 (x ∷ pos start ∷ pos end ∷ c ∷ []) ≡ answer (refused 4 4)
       unfolding answerOf fixnumAnswer counted isCode isCount rowOf rows
-      rotate-no-fixnum e = ap answer (passed 1 _ a ∙ passed 2 _ refl ∙ passed 3 _ refl ∙ failed 4 _ (rotate-fixnums ∙ e))
+      rotate-no-fixnum e = ap answer (passed 1 _ a ∙ passed 2 _ refl ∙ passed 3 _ refl ∙ fourth-fails 4 _ rotate-fixnums e)
 
-      pub rotate-out-of-domain : fits w c ≡ true → isDone w start end (rotate c) ≡ false → answerOf w 40 (x ∷ pos start ∷ pos end ∷ c ∷ []) ≡ answer (refuse 5)
+      pub rotate-out-of-domain : fits w c ≡ true → isDone w start end (rotate c) ≡ false → answerOf w 40 (x ∷ pos start ∷ pos end ∷ c ∷ []) ≡ answer (refused 5 4)
       unfolding answerOf fixnumAnswer counted isCode isCount rowOf rows
       rotate-out-of-domain e d =
-          ap answer (passed 1 _ a ∙ passed 2 _ refl ∙ passed 3 _ refl ∙ passed 4 _ (rotate-fixnums ∙ e) ∙ failed 5 _ (rotate-domains ∙ d))
+          ap answer
+          (passed 1 _ a ∙ passed 2 _ refl ∙ passed 3 _ refl ∙ passed-each _ 4 _ (fourth-holds rotate-fixnums e) ∙ fourth-fails 5 _ rotate-domains d)
 
 -- ---- the operations on all bits
 
@@ -106,7 +119,7 @@ module _ (w : ℕ) (a : isWidth w ≡ true) where
   -- an operation of one argument that is never refused
   pub one-answer : (code : ℕ) (g : ℤ → ℤ) → isCode code ≡ true → rowOf code ≡ row 1 1 [] 0 (one g)
       → (x : ℤ) → fits w x ≡ true → answerOf w code (x ∷ []) ≡ answer (done (g x, pos 0))
-  unfolding answerOf counted isCount inDomains inDomainsFrom arg allFixnums
+  unfolding answerOf counted isCount inDomains domainTests domainTestsFrom arg allFixnums fixnumTests allHold
   one-answer code g k e x f =
       accepted w code (x ∷ []) 1 k
       (record { width = a; arity = rw e; fixnums = ap (λ (t : Bool). t && true) f; domains = rw e })
@@ -115,7 +128,7 @@ module _ (w : ℕ) (a : isWidth w ≡ true) where
   -- an operation of up to four arguments that is never refused
   pub every-answer : (code : ℕ) (g : List ℤ → ℤ) → isCode code ≡ true → rowOf code ≡ row 0 4 [] 0 (every g)
       → (xs : List ℤ) → length xs ≤ 4 → allFixnums w xs ≡ true → answerOf w code xs ≡ answer (done (g xs, pos 0))
-  unfolding answerOf counted isCount inDomains inDomainsFrom
+  unfolding answerOf counted isCount inDomains domainTests domainTestsFrom allHold
   every-answer code g k e xs l f =
       accepted w code xs (length xs) k
       (record { width = a; arity = rw (e, le-leb 0 (length xs) zero-le, le-leb (length xs) 4 l); fixnums = rw (take-length xs) f; domains = rw e })

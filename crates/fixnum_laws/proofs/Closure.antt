@@ -10,33 +10,34 @@ use lib.Signed.{leZ, ltZ}
 use Rattle.bits.specs.Testbit.{testbit, fits}
 use Rattle.bits.specs.Logical.{bitwiseAnds, bitwiseIors, bitwiseXors}
 use Rattle.bits.proofs.FitsLaws.{zero-fits}
-use Rattle.outcomes.specs.Outcome.{Outcome, done, guard, guardAt}
-use Rattle.fxtable.specs.Calls.{answer, counted, isCount, allFixnums, checked, outcome, fixnumAnswer}
+use Rattle.outcomes.specs.Outcome.{refused, done, guard}
+use Rattle.fxtable.specs.declared.answer.Answer.{Answer}
+use Rattle.fxtable.specs.Calls.{answer, checked, outcome, fixnumAnswer}
 use Rattle.fxtable.specs.declared.domains.Domain.the-variants.{Rotation}
-use Rattle.fxtable.specs.Domains.{isWidth, arg, inDomains}
+use Rattle.fxtable.specs.Domains.{arg, inDomains}
 use Rattle.fxtable.specs.Operations.{equal, greater, greaterOrEqual, chain, isZero, isPositive, isBelowZero, isOdd, isEven, resultsOf}
 use Rattle.fxtable.specs.Table.{rows, rowOf, isCode}
 use Rattle.fxtable.proofs.TableLaws.{code-bounds, from-to}
+use Rattle.fixnum_laws.proofs.Stages.{stage, by-ways}
 use Rattle.fixnum_laws.proofs.ResultLaws.{Fit, Fixnums, question-fits, largest-fits, smallest-fits, mod-result-fits, mod0-result-fits, sum-carry-fits, difference-carry-fits, product-carry-fits, not-result-fits, all-result-fits, if-result-fits, count-fits, length-fits, first-bit-fits, copy-bit-fits, field-fits, copy-field-fits, rotate-fits, reverse-fits, right-shift-fits}
 
--- both results of an outcome are fixnums; a refusal has zero results
-abbrev Fixed : ℕ → Outcome (ℤ × ℤ) → Type 0
-Fixed w o = Fit w (answer o .first, answer o .second)
+-- both results of an answer are fixnums; a refusal has zero results
+abbrev Fixed : ℕ → Answer → Type 0
+Fixed w a = Fit w (a .first, a .second)
 
-stage : (w k : ℕ) (t : Bool) (o : Outcome (ℤ × ℤ)) → (t ≡ true → Fixed w o) → Fixed w (guard t k o)
-unfolding guard guardAt answer
-stage w k true o f = f refl
-stage w k false o f = (zero-fits w, zero-fits w)
+zeros : (w k place : ℕ) → Fixed w (answer (refused k place))
+unfolding answer
+zeros w k place = (zero-fits w, zero-fits w)
 
 -- the first result is tested for overflow, or is always a fixnum
-tested : (w k : ℕ) (r : ℤ × ℤ) → eqb k 0 ≡ false → fits w (r .1) ≡ true → Fixed w (checked k w r)
-unfolding checked answer
+tested : (w k : ℕ) (r : ℤ × ℤ) → eqb k 0 ≡ false → fits w (r .1) ≡ true → Fixed w (answer (checked k w r))
+unfolding checked guard answer
 tested w k r z g =
-    stage w k (eqb k 0 || fits w (r .0)) (done r) (λ t. (ap (λ (b : Bool). b || fits w (r .0)) (sym z) ∙ t, g))
+    stage (Fixed w) (eqb k 0 || fits w (r .0)) k 0 (done r) (λ t. (ap (λ (b : Bool). b || fits w (r .0)) (sym z) ∙ t, g)) (λ t. zeros w k 0)
 
-always : (w : ℕ) (r : ℤ × ℤ) → Fit w r → Fixed w (checked 0 w r)
-unfolding checked answer
-always w r f = stage w 0 (eqb 0 0 || fits w (r .0)) (done r) (λ t. f)
+always : (w : ℕ) (r : ℤ × ℤ) → Fit w r → Fixed w (answer (checked 0 w r))
+unfolding checked guard answer
+always w r f = stage (Fixed w) (eqb 0 0 || fits w (r .0)) 0 0 (done r) (λ t. f) (λ t. zeros w 0 0)
 
 -- a fact of one code, and those of the codes after it
 infixr 40 _▸_
@@ -44,11 +45,11 @@ abbrev _▸_ : {A B : Type 0} → A → B → A × B
 x ▸ y = (x, y)
 
 module _ {w : ℕ} {xs : List ℤ} (g : Fixnums w xs) where
-  outcome-fits : (code : ℕ) → isCode code ≡ true → inDomains (rowOf code .domains) w xs ≡ true → Fixed w (outcome w code xs)
+  outcome-fits : (code : ℕ) → isCode code ≡ true → inDomains (rowOf code .domains) w xs ≡ true → Fixed w (answer (outcome w code xs))
   unfolding outcome resultsOf rowOf rows bitwiseAnds bitwiseIors bitwiseXors
   outcome-fits code c =
       let b = code-bounds code c in
-      from-to (λ c. inDomains (rowOf c .domains) w xs ≡ true → Fixed w (outcome w c xs)) 1 41
+      from-to (λ c. inDomains (rowOf c .domains) w xs ≡ true → Fixed w (answer (outcome w c xs))) 1 41
       ((λ d. always w _ (question-fits g (chain equal)))  -- 1
       ▸ (λ d. always w _ (question-fits g (chain greater)))
       ▸ (λ d. always w _ (question-fits g (chain ltZ)))
@@ -95,11 +96,9 @@ module _ {w : ℕ} {xs : List ℤ} (g : Fixnums w xs) where
 
 pub results-fit : (w code : ℕ) (args : List ℤ) (count : ℕ)
     → (fits w (fixnumAnswer w code args count .first) ≡ true) × (fits w (fixnumAnswer w code args count .second) ≡ true)
-unfolding fixnumAnswer
-results-fit w code args count =
-    let xs = counted args count in
-    stage w 1 (isWidth w) _ (λ a.
-    stage w 2 (isCode code) _ (λ c.
-    stage w 3 (isCount code count) _ (λ n.
-    stage w 4 (allFixnums w xs) _ (λ f.
-    stage w 5 (inDomains (rowOf code .domains) w xs) _ (λ d. outcome-fits (record { width = a; all = f }) code c d)))))
+results-fit w code args count = by-ways w code args count (Fixed w) (record {
+  early = λ k l u. zeros w k 0;
+  wide = λ m h. zeros w 4 _;
+  outside = λ m h. zeros w 5 _;
+  past = λ a c f d. outcome-fits (record { width = a; all = f }) code c d;
+})

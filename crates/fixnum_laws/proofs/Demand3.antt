@@ -19,8 +19,8 @@ use Rattle.bits.proofs.LengthLaws.{fits-not}
 use Rattle.bits.proofs.FitsLaws.{is-true, fill-fits, bitwise-fits}
 use Rattle.bits.proofs.ListTheorem.{ListLaw, list-theorem, calls-fit}
 use Rattle.fxtable.specs.declared.answer.Answer.{Answer}
-use Rattle.outcomes.specs.Outcome.{done, refuse}
-use Rattle.fxtable.specs.Calls.{answer, allFixnums}
+use Rattle.outcomes.specs.Outcome.{refused, done}
+use Rattle.fxtable.specs.Calls.{answer, fixnumTests, allFixnums}
 use Rattle.fxtable.specs.Domains.{isWidth}
 use Rattle.fxtable.specs.Operations.{every}
 use Rattle.fxtable.specs.Table.{row, rows, isCode, rowOf}
@@ -29,12 +29,13 @@ use Rattle.bits.proofs.Booleans.{both-left, both-right}
 use Rattle.fxtable.proofs.TableLaws.{from-to}
 use Rattle.fixnum_laws.proofs.ShortLists.{done-answer, twice, between-reversals, twice-reversed, back, different}
 use Rattle.fixnum_laws.proofs.AnswerLaws.{count-done, reverse-answer, rotate-answer, rotate-no-fixnum, rotate-out-of-domain, one-answer, every-answer}
+use Rattle.outcomes.specs.Tests.{allHold}
 
 -- ---- fixnums stay fixnums
 
 module _ (w : ℕ) (p : 0 < w) where
   from-fits : (op : Bool → Bool → Bool) (x : ℤ) (ys : List ℤ) → fits w x ≡ true → allFixnums w ys ≡ true → fits w (bitwiseFrom op x ys) ≡ true
-  unfolding bitwiseFrom allFixnums
+  unfolding bitwiseFrom allFixnums fixnumTests allHold
   from-fits op x [] f g = f
   from-fits op x (y ∷ ys) f g =
       from-fits op (bitwise op x y) ys (bitwise-fits w p op x y f (both-left (fits w y) (allFixnums w ys) g)) (both-right (fits w y) (allFixnums w ys) g)
@@ -62,7 +63,7 @@ module _ (w : ℕ) (a : isWidth w ≡ true) (start end : ℕ) (h : start < end) 
     handed = ap (λ (r : Answer). handOn r x) e ∙ sym (ap (λ (t : Bool). cond t (runCall start end call x) x) d);
   }
 
-  refused-step : (call : FieldCall) (x : ℤ) (n : ℕ) → answerTo w start end call x ≡ answer (refuse n) → eqb n 0 ≡ false → isDone w start end call ≡ false
+  refused-step : (call : FieldCall) (x : ℤ) (n : ℕ) → answerTo w start end call x ≡ answer (refused n 4) → eqb n 0 ≡ false → isDone w start end call ≡ false
       → cond (countFits w call) 5 4 ≡ n → Step call x
   unfolding answer handOn refusalTo
   refused-step call x n e z d g = record {
@@ -154,13 +155,13 @@ module _ (w : ℕ) (a : isWidth w ≡ true) (start end : ℕ) (h : start < end) 
       ∙ ap (λ (r : Answer). runAll w start end calls (r .first)) (sym (not-answer x f)))
 
   map-fits : (calls : List FieldCall) (xs : List ℤ) → allFixnums w xs ≡ true → allFixnums w (map (runAll w start end calls) xs) ≡ true
-  unfolding allFixnums
+  unfolding allFixnums fixnumTests allHold
   map-fits calls [] f = refl
   map-fits calls (x ∷ xs) f =
       rw (run-fits calls x (both-left (fits w x) (allFixnums w xs) f)) (map-fits calls xs (both-right (fits w x) (allFixnums w xs) f))
 
   map-agree : (calls : List FieldCall) (xs : List ℤ) → allFixnums w xs ≡ true → map (runAll w start end calls) xs ≡ map (runCalls rule start end calls) xs
-  unfolding allFixnums
+  unfolding allFixnums fixnumTests allHold
   map-agree calls [] f = refl
   map-agree calls (x ∷ xs) f =
       cc (agree calls x (both-left (fits w x) (allFixnums w xs) f), map-agree calls xs (both-right (fits w x) (allFixnums w xs) f))

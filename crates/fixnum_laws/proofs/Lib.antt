@@ -1,4 +1,5 @@
 -- Theorems about whole calls. docs/THEOREMS.md lists them.
+pub mod Stages
 pub mod AnswerLaws
 pub mod Influence
 pub mod ResultLaws
@@ -6,3 +7,4 @@ pub mod Closure
 pub mod ShortLists
 pub mod Demand3
 pub mod Rotations
+pub mod Places

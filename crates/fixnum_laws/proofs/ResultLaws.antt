@@ -25,12 +25,13 @@ use Rattle.bits.specs.Range.{within}
 use Rattle.bits.proofs.RangeLaws.{within-field}
 use Rattle.fxtable.specs.declared.domains.Domain.{Domain}
 use Rattle.fxtable.specs.declared.domains.Domain.the-variants.{Fixnum, Divisor, Position, FieldEnd}
-use Rattle.fxtable.specs.Domains.{isWidth, arg, accepts, inDomainsFrom, inDomains}
+use Rattle.fxtable.specs.Domains.{isWidth, arg, accepts, domainTestsFrom, domainTests, inDomains}
 use Rattle.fxtable.specs.Operations.{resultsOf, every, one, two, three, four, question, truth, foldFrom, larger, smaller, largest, smallest, partsOf, carry, copyBitAt}
-use Rattle.fxtable.specs.Calls.{allFixnums}
+use Rattle.fxtable.specs.Calls.{fixnumTests, allFixnums}
 use Rattle.bits.proofs.Booleans.{both-left, both-right}
 use Rattle.fxtable.proofs.CallLaws.{width-bounds, arg-fits}
 use Rattle.fixnum_laws.proofs.Demand3.{all-fits}
+use Rattle.outcomes.specs.Tests.{allHold}
 
 -- both results are fixnums
 abbrev pub Fit : ℕ → ℤ × ℤ → Type 0
@@ -47,7 +48,7 @@ choice-fits w false x y f g = f
 
 fold-fits : (w : ℕ) (g : ℤ → ℤ → ℤ) → ((x y : ℤ) → fits w x ≡ true → fits w y ≡ true → fits w (g x y) ≡ true)
     → (x : ℤ) (ys : List ℤ) → fits w x ≡ true → allFixnums w ys ≡ true → fits w (foldFrom g x ys) ≡ true
-unfolding foldFrom allFixnums
+unfolding foldFrom allFixnums fixnumTests allHold
 fold-fits w g h x [] f e = f
 fold-fits w g h x (y ∷ ys) f e =
     fold-fits w g h (g x y) ys (h x y f (both-left (fits w y) (allFixnums w ys) e)) (both-right (fits w y) (allFixnums w ys) e)
@@ -105,7 +106,7 @@ module _ {w : ℕ} {xs : List ℤ} (g : Fixnums w xs) where
 
   module _ (d : inDomains (Fixnum ∷ Divisor ∷ []) w xs ≡ true) where
     nonzero : 0 < natAbs (arg xs 1)
-    unfolding inDomains inDomainsFrom accepts
+    unfolding inDomains domainTests domainTestsFrom accepts allHold
     nonzero = ltb-true 0 (natAbs (arg xs 1)) (both-left (ltb 0 (natAbs (arg xs 1))) true d)
 
     pub mod-result-fits : fits w («mod» (arg xs 0) (arg xs 1)) ≡ true
@@ -182,11 +183,11 @@ module _ {w : ℕ} {xs : List ℤ} (g : Fixnums w xs) where
 
   module _ (ds : List Domain) (d : inDomains (Fixnum ∷ Position ∷ FieldEnd ∷ ds) w xs ≡ true) where
     end-below : natAbs (arg xs 2) ≤ w - 1
-    unfolding inDomains inDomainsFrom accepts
+    unfolding inDomains domainTests domainTestsFrom accepts allHold
     end-below =
         let rest = both-right (within (pos 0) (arg xs 1) (pos (w - 1))) _ d in
         within-field (w - 1) (arg xs 1) (arg xs 2) (both-left (within (pos 0) (arg xs 1) (pos (w - 1))) _ d)
-        (both-left (within (arg xs 1) (arg xs 2) (pos (w - 1))) (inDomainsFrom 3 ds w xs) rest)
+        (both-left (within (arg xs 1) (arg xs 2) (pos (w - 1))) (allHold (domainTestsFrom 3 ds w xs)) rest)
         .3
 
     set-field-fits : (new : ℕ → Bool) → fits w (setField (arg xs 0) (natAbs (arg xs 1)) (natAbs (arg xs 2)) new) ≡ true

@@ -1,4 +1,5 @@
 -- Code 40 beside R6RS's own rule for its count, which is below the size of the field. Code 40 takes one count more: the size.
+--   fieldTests w xs                ==  for the number, the start and the end: whether it lies in its domain
 --   legalField w xs                ==  whether arguments 1 and 2 are the start and the end of a field at the width
 --   belowSize xs                   ==  R6RS's rule: 0 <= count < end - start
 --   isSize xs                      ==  whether the count is end - start
@@ -6,18 +7,22 @@
 --   isFullRotation w args n        ==  whether a call of code 40, of fixnums and a field at the width, has the count end - start
 use Prim.Native.Nat.{ℕ}
 use mathlib.Core.Bool.{Bool, _&&_}
-use mathlib.Core.List.{List, [], _∷_}
+use mathlib.Core.List.{List, [], _∷_, _++_}
 use lib.IntN.{ℤ, pos, _-ℤ_}
 use lib.Signed.{leZ, ltZ}
 use Rattle.outcomes.specs.Outcome.{guard}
+use Rattle.outcomes.specs.Tests.{allHold, guardEach}
 use Rattle.fxtable.specs.declared.answer.Answer.{Answer}
 use Rattle.fxtable.specs.declared.domains.Domain.the-variants.{Fixnum, Position, FieldEnd}
-use Rattle.fxtable.specs.Domains.{isWidth, arg, inDomains}
+use Rattle.fxtable.specs.Domains.{isWidth, arg, domainTests}
 use Rattle.fxtable.specs.Operations.{equal}
-use Rattle.fxtable.specs.Calls.{answer, counted, isCount, allFixnums, outcome}
+use Rattle.fxtable.specs.Calls.{answer, counted, isCount, fixnumTests, allFixnums, outcome}
+
+unfoldable pub fieldTests : ℕ → List ℤ → List Bool
+fieldTests w xs = domainTests (Fixnum ∷ Position ∷ FieldEnd ∷ []) w xs
 
 unfoldable pub legalField : ℕ → List ℤ → Bool
-legalField w xs = inDomains (Fixnum ∷ Position ∷ FieldEnd ∷ []) w xs
+legalField w xs = allHold (fieldTests w xs)
 
 unfoldable pub belowSize : List ℤ → Bool
 belowSize xs = leZ (pos 0) (arg xs 3) && ltZ (arg xs 3) (arg xs 2 -ℤ arg xs 1)
@@ -30,8 +35,8 @@ strictAnswer w args n =
     answer
     (guard (isWidth w) 1
     (guard (isCount 40 n) 3
-    (guard (allFixnums w (counted args n)) 4
-    (guard (legalField w (counted args n) && belowSize (counted args n)) 5
+    (guardEach (fixnumTests w (counted args n)) 4
+    (guardEach (fieldTests w (counted args n) ++ (belowSize (counted args n) ∷ [])) 5
     (outcome w 40 (counted args n))))))
 
 unfoldable pub isFullRotation : ℕ → List ℤ → ℕ → Bool

@@ -124,7 +124,7 @@ fn step(field: Field, state: State, call: Call, out: &mut [u8]) -> State {
             net: state.net,
             odd: state.odd,
             refused: true,
-            filled: put_refusal(field.width, request, answer.refusal, out, state.filled),
+            filled: put_refusal(field.width, request, answer, out, state.filled),
         };
     }
     let at = put_both(answer.first, out, state.filled);
@@ -255,9 +255,9 @@ fn reply_field(line: &[u8], field: Field, x: i64, out: &mut [u8]) -> Reply {
         return trouble(line, bad, Expected::ListCall, out);
     }
     let request = request_of(field, x, REVERSAL);
-    let refusal = answer(field.width, request).refusal;
-    if refusal != 0 {
-        return refused(put_refusal(field.width, request, refusal, out, 0));
+    let answer = answer(field.width, request);
+    if answer.refusal != 0 {
+        return refused(put_refusal(field.width, request, answer, out, 0));
     }
     reply_calls(line, field, x, out)
 }

@@ -1,6 +1,6 @@
 // `widths`: one fixnum call at every width, and which widths agree.
 ghost use Prim.Native.Nat.{_<_, _≤_};
-use super::explain::put_rule;
+use super::explain::put_reason;
 use super::fx::put_results;
 use super::request::Request;
 use super::request::answer;
@@ -25,7 +25,7 @@ const PAST: u64 = LARGEST_WIDTH + 1;
 fn agree(request: Request, v: u64, w: u64) -> bool {
     let a = answer(v, request);
     let b = answer(w, request);
-    a.refusal == b.refusal && a.first == b.first && a.second == b.second
+    a.refusal == b.refusal && a.place == b.place && a.first == b.first && a.second == b.second
 }
 
 // The first width from v on that has the answer of a width, or the first that has not. 63 where there is none.
@@ -64,7 +64,7 @@ fn put_answer(request: Request, width: u64, out: &mut [u8], at: usize) -> usize 
         return put_results(request.code, answer, b", ", out, at);
     }
     let at = put_refused(answer.refusal, out, at);
-    put_rule(width, request, answer.refusal, out, at)
+    put_reason(width, request, answer, out, at)
 }
 
 // The line of a width, where no narrower one has its answer.

@@ -11,6 +11,7 @@ use Rattle.bits.specs.Testbit.{isNegative, fits}
 use Rattle.bits.proofs.Booleans.{both-left, both-right}
 use Rattle.bits.proofs.IntegerLaws.{pos-sub-ge}
 use Rattle.bits.proofs.RangeLaws.{natural-pos, within-pos, within-both, within-field}
+use Rattle.outcomes.specs.Tests.{allHold}
 use Rattle.fxtable.specs.declared.domains.Domain.{Domain}
 use Rattle.fxtable.specs.declared.domains.Domain.the-variants.{Divisor, Position, FieldEnd, NewBit, SignedDistance, Distance, Rotation}
 use Rattle.fxtable.specs.Domains.{arg, accepts}
@@ -36,7 +37,8 @@ module _ {w code : ℕ} {xs : List ℤ} {n : ℕ} (a : Accepted w code xs n) whe
   abbrev lies : ℕ → Bool
   lies i = accepts (domainOf code i) w xs (arg xs i)
 
-  all-lie : lies 1 && (lies 2 && lies 3) ≡ true
+  all-lie : lies 1 && (lies 2 && (lies 3 && true)) ≡ true
+  unfolding allHold
   all-lie = sym (in-domains w xs n code (a .arity)) ∙ a .domains
 
   second : {d : Domain} → domainOf code 1 ≡ d → accepts d w xs (arg xs 1) ≡ true
@@ -46,7 +48,7 @@ module _ {w code : ℕ} {xs : List ℤ} {n : ℕ} (a : Accepted w code xs n) whe
   third e = subst (λ (d : Domain). accepts d w xs (arg xs 2) ≡ true) e (both-left (lies 2) _ (both-right (lies 1) _ all-lie))
 
   fourth : {d : Domain} → domainOf code 3 ≡ d → accepts d w xs (arg xs 3) ≡ true
-  fourth e = subst (λ (d : Domain). accepts d w xs (arg xs 3) ≡ true) e (both-right (lies 2) _ (both-right (lies 1) _ all-lie))
+  fourth e = subst (λ (d : Domain). accepts d w xs (arg xs 3) ≡ true) e (both-left (lies 3) true (both-right (lies 2) _ (both-right (lies 1) _ all-lie)))
 
   bounds : (24 ≤ w) × (w ≤ 64)
   bounds = width-bounds w (a .width)

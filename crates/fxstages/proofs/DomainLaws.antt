@@ -13,17 +13,20 @@ use mir.Syntax.{w64}
 use mir.Val.{SFits, toZ, ofZ}
 use borrow.Author.Tests.{leb-true, eqb-true}
 use Rattle.bits.specs.Range.{within}
-use Rattle.bits.proofs.Booleans.{and-true, both-left, both-right}
+use Rattle.bits.proofs.Booleans.{both-left, both-right}
 use Rattle.bits.proofs.IntegerLaws.{pos-sub-ge}
+use Rattle.outcomes.specs.Tests.{allHold, firstFailed}
+use Rattle.outcomes.proofs.TestLaws.{all-hold, four-tests}
 use Rattle.words.proofs.WordLaws.{back}
 use Rattle.fxtable.specs.declared.domains.Domain.{Domain}
 use Rattle.fxtable.specs.declared.domains.Domain.the-variants.{Fixnum, Divisor, Position, FieldEnd, NewBit, SignedDistance, Distance, Rotation}
 use Rattle.fxtable.specs.declared.table.Signature.{Signature}
-use Rattle.fxtable.specs.Domains.{isWidth, arg, accepts, domainAt, inDomainsFrom, inDomains}
+use Rattle.fxtable.specs.Domains.{isWidth, arg, accepts, domainAt, domainTests, inDomains}
 use Rattle.fxtable.specs.Table.{rows, noRow, rowOf, signatureOf}
 use Rattle.fxtable.specs.Calls.{counted, isCount}
 use Rattle.fxtable.proofs.CallLaws.{between, width-bounds, arg-counted}
 use Rattle.fxtable.proofs.TableLaws.{of-row}
+use Rattle.fxtable.proofs.ArgumentTests.{domain-test, domain-tests-length}
 
 -- ---- what every row keeps
 
@@ -112,20 +115,18 @@ module _ (code : ℕ) where
 
 -- ---- the domains, one by one
 
-tail : (w : ℕ) (ys : List ℤ) (ds : List Domain) → length ds ≤ 3
-    → inDomainsFrom 1 ds w ys ≡ accepts (domainAt ds 0) w ys (arg ys 1) && (accepts (domainAt ds 1) w ys (arg ys 2) && accepts (domainAt ds 2) w ys (arg ys 3))
-unfolding inDomainsFrom domainAt accepts
-tail w ys [] h = refl
-tail w ys (a ∷ []) h = refl
-tail w ys (a ∷ b ∷ []) h = refl
-tail w ys (a ∷ b ∷ c ∷ []) h = ap (λ (t : Bool). accepts a w ys (arg ys 1) && (accepts b w ys (arg ys 2) && t)) (and-true (accepts c w ys (arg ys 3)))
-tail w ys (a ∷ b ∷ c ∷ d ∷ ds) h = absurd (omega arith)
+-- the first argument that fails, from the tests of arguments 1 to 3
+abbrev pub failedOf : Bool → Bool → Bool → ℕ
+failedOf a b c = firstFailed (true ∷ a ∷ b ∷ c ∷ [])
 
 spelled : (w : ℕ) (ys : List ℤ) (ds : List Domain) → domainAt ds 0 ≡ Fixnum → length ds ≤ 4
-    → inDomains ds w ys ≡ accepts (domainAt ds 1) w ys (arg ys 1) && (accepts (domainAt ds 2) w ys (arg ys 2) && accepts (domainAt ds 3) w ys (arg ys 3))
-unfolding inDomains inDomainsFrom domainAt accepts
-spelled w ys [] e h = refl
-spelled w ys (d ∷ ds) e h = ap (λ (a : Domain). accepts a w ys (arg ys 0) && inDomainsFrom 1 ds w ys) e ∙ tail w ys ds (omega arith)
+    → firstFailed (domainTests ds w ys)
+    ≡ failedOf (accepts (domainAt ds 1) w ys (arg ys 1)) (accepts (domainAt ds 2) w ys (arg ys 2)) (accepts (domainAt ds 3) w ys (arg ys 3))
+unfolding accepts
+spelled w ys ds e h =
+    let test = domain-test w ys ds in
+    let free : getD (domainTests ds w ys) 0 true ≡ true = test 0 ∙ ap (λ (d : Domain). accepts d w ys (arg ys 0)) e in
+    four-tests (domainTests ds w ys) (omega (arith, domain-tests-length w ys ds, h)) ∙ cc (free, test 1, test 2, test 3)
 
 module _ (w : ℕ) (xs : List ℤ) (n : ℕ) where
   -- a test of counted arguments is one of the slots
@@ -148,14 +149,21 @@ module _ (w : ℕ) (xs : List ℤ) (n : ℕ) where
     abbrev lies : ℕ → Bool
     lies i = accepts (domainOf code i) w xs (arg xs i)
 
-    pub in-domains : inDomains (rowOf code .domains) w (counted xs n) ≡ lies 1 && (lies 2 && lies 3)
-    in-domains =
+    failed-domain : firstFailed (domainTests (rowOf code .domains) w (counted xs n)) ≡ failedOf (lies 1) (lies 2) (lies 3)
+    failed-domain =
         let r = looks code in
         let r1 = le-trans (r .0) enough in
         let r2 = le-trans (r .1) enough in
         let r3 = le-trans (r .2) enough in
         spelled w (counted xs n) (rowOf code .domains) (first-free code) (few code)
         ∙ cc (slot (domainOf code 1) 1 (omega arith) (omega arith) r1, slot (domainOf code 2) 2 (omega arith) (omega arith) r2, slot (domainOf code 3) 3 (omega arith) (omega arith) r3)
+
+    pub in-domains : inDomains (rowOf code .domains) w (counted xs n) ≡ allHold (lies 1 ∷ lies 2 ∷ lies 3 ∷ [])
+    unfolding inDomains allHold
+    in-domains =
+        all-hold (domainTests (rowOf code .domains) w (counted xs n))
+        ∙ ap (λ (p : ℕ). eqb p 0) failed-domain
+        ∙ sym (all-hold (true ∷ lies 1 ∷ lies 2 ∷ lies 3 ∷ []))
 
 -- ---- the same, of a signature
 
@@ -173,9 +181,9 @@ module _ (code : ℕ) {s : Signature} (e : s ≡ signatureOf code) where
   fourth-is = ap (λ (r : Signature). r .fourth) e
 
   pub signature-domains : (w : ℕ) (xs : List ℤ) (n : ℕ) → isCount code n ≡ true
-      → inDomains (rowOf code .domains) w (counted xs n)
-      ≡ accepts (s .second) w xs (arg xs 1) && (accepts (s .third) w xs (arg xs 2) && accepts (s .fourth) w xs (arg xs 3))
-  signature-domains w xs n a = in-domains w xs n code a ∙ cc (second-is, third-is, fourth-is)
+      → firstFailed (domainTests (rowOf code .domains) w (counted xs n))
+      ≡ failedOf (accepts (s .second) w xs (arg xs 1)) (accepts (s .third) w xs (arg xs 2)) (accepts (s .fourth) w xs (arg xs 3))
+  signature-domains w xs n a = failed-domain w xs n code a ∙ cc (second-is, third-is, fourth-is)
 
   -- a rotation's count is the fourth argument, behind a start and an end that are in order
   pub no-second : s .second ≡ Rotation → ⊥

@@ -3,21 +3,20 @@ use Prim.Native.Nat.{ℕ, suc, _+_, _-_, _≤_, _<_, _^_}
 use native.Mathlib.Numerals.{add-one}
 use native.Mathlib.Omega.{arith}
 use mathlib.Core.Path.{_≡_, refl, sym, ap, _∙_}
-use mathlib.Core.Bool.{Bool, _&&_}
+use mathlib.Core.Bool.{Bool}
 use mathlib.Core.List.{List, [], _∷_}
 use lib.IntN.{ℤ, pos}
 use lib.ListN.{length, take, drop, length-take, drop-of-length-le}
 use lib.Seq.{drop-cons, getD-take, length-take-le}
 use mir.Syntax.{w64}
 use mir.Val.{toZ, ofZ}
-use Rattle.bits.specs.Testbit.{fits}
 use Rattle.fxtable.specs.Domains.{arg}
 use Rattle.fxtable.specs.Operations.{every, foldFrom}
 use Rattle.bits.specs.Logical.{bitwise, bitwiseFrom}
 use Rattle.outcomes.specs.Outcome.{done}
 use Rattle.fxtable.specs.declared.answer.Answer.{Answer}
 use Rattle.fxstages.specs.declared.fold.Fold.{Fold}
-use Rattle.fxtable.specs.Calls.{answer, counted, allFixnums, outcome}
+use Rattle.fxtable.specs.Calls.{answer, counted, outcome}
 use Rattle.fxstages.specs.Inner.{step}
 use Rattle.fxtable.specs.Table.{row, rowOf}
 use Rattle.fxtable.proofs.CallLaws.{done-word}
@@ -44,11 +43,6 @@ rest-none xs n i h = drop-of-length-le (take n xs) {i = i} (omega (arith, length
 
 -- one turn of each loop, and its end
 module _ (xs : List ℤ) (n : ℕ) (four : length xs ≡ 4) (few : n ≤ 4) where
-  pub fixnums-step : (w i : ℕ) → i < n
-      → allFixnums w (drop i (counted xs n)) ≡ fits w (arg xs i) && allFixnums w (drop (i + 1) (counted xs n))
-  unfolding allFixnums
-  fixnums-step w i h = ap (allFixnums w) (rest-cons xs n four few i h)
-
   pub fold-step : (f : ℤ → ℤ → ℤ) (x : ℤ) (i : ℕ) → i < n
       → foldFrom f x (drop i (counted xs n)) ≡ foldFrom f (f x (arg xs i)) (drop (i + 1) (counted xs n))
   unfolding foldFrom

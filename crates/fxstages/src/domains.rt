@@ -1,9 +1,10 @@
-// Whether the arguments of a call lie in their domains.
+// Which argument of a call is the first outside its domain.
 ghost use mathlib.Core.Path.{_≡_};
 ghost use mathlib.Core.Bool.{true};
 ghost use Prim.Native.Nat.{_≤_};
 ghost use lib.IntN.{pos};
 ghost use Rattle.bits.specs.Range as range;
+ghost use Rattle.outcomes.specs.Tests.{firstFailed};
 ghost use Rattle.fxtable.specs.declared.domains.Domain.the-variants.{Rotation};
 ghost use Rattle.fxtable.specs.Domains as domains;
 ghost use Rattle.fxtable.specs.Table.{rowOf};
@@ -40,21 +41,24 @@ fn accepts(domain: Domain, width: u64, args: [i64; 4], i: u64) -> bool
     }
 }
 
-// Whether each argument lies in its domain, from left to right.
-pub fn in_domains(width: u64, code: u64, args: [i64; 4], count: u64) -> bool
+// The place of the first argument that lies outside its domain, counted from 1; 0 where each lies in it. The first may be any fixnum.
+pub fn first_outside(width: u64, code: u64, args: [i64; 4], count: u64) -> u64
     requires { ⌜ domains.isWidth width ≡ true ⌝ }
     requires { ⌜ isCount code count ≡ true ⌝ }
-    ensures { λ r. ⌜ r ≡ domains.inDomains (rowOf code .domains) width (counted args count) ⌝ }
+    ensures { λ r. ⌜ r ≡ firstFailed (domains.domainTests (rowOf code .domains) width (counted args count)) ⌝ }
 {
     let s = signature_of(code);
     let second = s.second;
     if !accepts(second, width, args, 1) {
-        return false;
+        return 2;
     }
     let third = s.third;
     if !accepts(third, width, args, 2) {
-        return false;
+        return 3;
     }
     let fourth = s.fourth;
-    accepts(fourth, width, args, 3)
+    if !accepts(fourth, width, args, 3) {
+        return 4;
+    }
+    0
 }

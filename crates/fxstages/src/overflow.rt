@@ -1,4 +1,4 @@
-// The answer of a call whose exact first result may be no fixnum, from that result.
+// The answer of a call whose exact first result may be no fixnum, from that result. Its refusal is for no argument.
 ghost use mathlib.Core.Path.{_≡_};
 ghost use mathlib.Core.Bool.{true};
 ghost use Prim.Native.Nat.{_<_};
@@ -23,7 +23,7 @@ pub fn checked(overflow: u64, width: u64, negative: bool, n: u64, second: i64) -
     if absolute_fits(width, negative, n) {
         done(from_absolute(negative, n), second)
     } else {
-        refuse(overflow)
+        refuse(overflow, 0)
     }
 }
 
@@ -32,9 +32,8 @@ pub fn exact(overflow: u64, width: u64, s: Wide) -> Answer
     requires { ⌜ (isWidth width ≡ true) × (0 < overflow) ⌝ }
     ensures { λ r. ⌜ r ≡ answer (calls.checked overflow width (wideValue s, pos 0)) ⌝ }
 {
-    if s.high == 0 {
-        checked(overflow, width, s.negative, s.low, 0)
-    } else {
-        refuse(overflow)
+    if s.high != 0 {
+        return refuse(overflow, 0);
     }
+    checked(overflow, width, s.negative, s.low, 0)
 }

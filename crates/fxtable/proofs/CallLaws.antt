@@ -6,7 +6,7 @@ use mathlib.Core.Path.{_≡_, refl, sym, ap, _∙_, subst}
 use mathlib.Core.Bool.{Bool, true, false, _&&_, _||_}
 use mathlib.Core.List.{List, [], _∷_}
 use lib.Dec.{leb, eqb}
-use lib.IntN.{ℤ, pos, negsuc}
+use lib.IntN.{ℤ, pos}
 use lib.Pow.{pow-mono}
 use lib.Seq.{getD-take}
 use lib.Signed.{mag}
@@ -17,11 +17,12 @@ use Rattle.bits.proofs.Booleans.{both-left, both-right}
 use Rattle.bits.proofs.FitsLaws.{zero-fits}
 use Rattle.bits.specs.Testbit.{fits}
 use Rattle.outcomes.specs.Outcome.{done, refuse}
-use Rattle.outcomes.proofs.OutcomeLaws.{passed, failed}
+use Rattle.outcomes.specs.Tests.{allHold, guardEach}
+use Rattle.outcomes.proofs.OutcomeLaws.{passed, passed-at, failed}
 use Rattle.words.proofs.WordLaws.{back-word, fits-mag}
 use Rattle.fxtable.specs.declared.answer.Answer.{Answer}
-use Rattle.fxtable.specs.Calls.{answer, counted, allFixnums, checked, outcome, fixnumAnswer}
-use Rattle.fxtable.specs.Domains.{leastWidth, largestWidth, isWidth, arg}
+use Rattle.fxtable.specs.Calls.{answer, counted, fixnumTests, allFixnums, checked, outcome, fixnumAnswer}
+use Rattle.fxtable.specs.Domains.{leastWidth, largestWidth, isWidth, arg, inDomains}
 use Rattle.fxtable.specs.Table.{isCode}
 use Rattle.fxtable.specs.Inner.{Accepted}
 
@@ -53,7 +54,7 @@ arg-exactly xs n count i h k = arg-counted xs count i (subst (λ (m : ℕ). i < 
 
 -- each argument is a fixnum, also past the last, where `arg` is 0
 pub arg-fits : (w : ℕ) (xs : List ℤ) → allFixnums w xs ≡ true → (i : ℕ) → fits w (arg xs i) ≡ true
-unfolding arg allFixnums
+unfolding arg allFixnums fixnumTests allHold
 arg-fits w [] f i = zero-fits w
 arg-fits w (x ∷ xs) f zero = both-left (fits w x) (allFixnums w xs) f
 arg-fits w (x ∷ xs) f (suc i) = arg-fits w xs (both-right (fits w x) (allFixnums w xs) f) i
@@ -100,6 +101,6 @@ done-never w {z} d h e = done-word d h e ∙ never-checked w (z, pos 0)
 
 -- an answer whose first five stages pass
 pub accepted : (w code : ℕ) (xs : List ℤ) (n : ℕ) → isCode code ≡ true → Accepted w code xs n → fixnumAnswer w code xs n ≡ answer (outcome w code (counted xs n))
-unfolding fixnumAnswer
+unfolding fixnumAnswer guardEach allFixnums inDomains
 accepted w code xs n k a =
-    ap answer (passed 1 _ (a .width) ∙ passed 2 _ k ∙ passed 3 _ (a .arity) ∙ passed 4 _ (a .fixnums) ∙ passed 5 _ (a .domains))
+    ap answer (passed 1 _ (a .width) ∙ passed 2 _ k ∙ passed 3 _ (a .arity) ∙ passed-at 4 _ _ (a .fixnums) ∙ passed-at 5 _ _ (a .domains))

@@ -14,10 +14,11 @@ use Rattle.bits.specs.Shift.{floorDiv, shiftLeft, shiftRight, arithmeticShift}
 use Rattle.bits.specs.Division.{div, modℕ, «mod», div0, mod0}
 use Rattle.bits.specs.Field.{inField, rotateIndex, reverseIndex, setField, permuteField, bitField, copyBit, copyBitField, rotateBitField, reverseBitField}
 use Rattle.bits.specs.Range.{within}
-use Rattle.outcomes.specs.Outcome.{Outcome, done, refuse, guard, guardAt}
+use Rattle.outcomes.specs.Outcome.{Outcome, refused, done, refuse, guard, guardAt}
+use Rattle.outcomes.specs.Tests.{allHold, firstFailedFrom, firstFailed, guardEach}
 use Rattle.fxtable.specs.declared.answer.Answer.{Answer}
-use Rattle.fxtable.specs.Calls.{answer, counted, isCount, allFixnums, checked, outcome, fixnumAnswer}
-use Rattle.fxtable.specs.Domains.{leastWidth, largestWidth, isWidth, arg, accepts, inDomainsFrom, inDomains}
+use Rattle.fxtable.specs.Calls.{answer, counted, isCount, fixnumTests, checked, outcome, fixnumAnswer}
+use Rattle.fxtable.specs.Domains.{leastWidth, largestWidth, isWidth, arg, accepts, domainTestsFrom, domainTests}
 use Rattle.fxtable.specs.Operations.{resultsOf, hasTwo, partsOf, truth, equal, greater, greaterOrEqual, chainFrom, chain, isZero, isPositive, isBelowZero, isOdd, isEven, foldFrom, larger, smaller, largest, smallest, minus}
 use Rattle.fxtable.specs.Table.{rows, noRow, isCode, rowOf}
 
@@ -31,7 +32,7 @@ same (pos a) (negsuc b) = false
 same (negsuc a) (pos b) = false
 
 abbrev sameAnswer : Answer → Answer → Bool
-sameAnswer a b = eqb (a .refusal) (b .refusal) && (same (a .first) (b .first) && same (a .second) (b .second))
+sameAnswer a b = eqb (a .refusal) (b .refusal) && (same (a .first) (b .first) && (same (a .second) (b .second) && eqb (a .place) (b .place)))
 
 abbrev all : List Bool → Bool
 all [] = true
@@ -44,8 +45,17 @@ allFrom p a (suc k) = p a && allFrom p (suc a) k
 abbrev gives : ℕ → ℕ → List ℤ → ℕ → Outcome (ℤ × ℤ) → Bool
 gives w code xs n o = sameAnswer (fixnumAnswer w code xs n) (answer o)
 
+-- whether the call is refused so, for the argument at that place
+abbrev refusedAt : ℕ → ℕ → List ℤ → ℕ → ℕ → Bool
+refusedAt w code xs k place = (let a = fixnumAnswer w code xs (length xs) in eqb (a .refusal) k && eqb (a .place) place)
+
+-- a refusal for no argument, or 0
 abbrev refusal : ℕ → ℕ → List ℤ → ℕ → Bool
-refusal w code xs k = eqb (fixnumAnswer w code xs (length xs) .refusal) k
+refusal w code xs k = refusedAt w code xs k 0
+
+-- an argument outside its domain
+abbrev outside : ℕ → ℕ → List ℤ → ℕ → Bool
+outside w code xs place = refusedAt w code xs 5 place
 
 -- whether the code's answers at width 24 are these
 abbrev answers : ℕ → List (List ℤ × Outcome (ℤ × ℤ)) → Bool
@@ -102,7 +112,7 @@ rowAnswers =
     ∷ unique 35 ((pos 182 ∷ pos 2 ∷ pos 6 ∷ [], done (pos 13, pos 0)) ∷ [])  -- fxbit-field
     ∷ unique 36 ((pos 0 ∷ pos 1 ∷ pos 4 ∷ pos 5 ∷ [], done (pos 10, pos 0)) ∷ [])  -- fxcopy-bit-field
     ∷ unique 37 ((neg 23 ∷ neg 2 ∷ [], done (neg 6, pos 0)) ∷ (neg 23 ∷ pos 2 ∷ [], done (neg 92, pos 0)) ∷ [])  -- fxarithmetic-shift
-    ∷ unique 38 ((neg 23 ∷ pos 2 ∷ [], done (neg 92, pos 0)) ∷ (neg 23 ∷ neg 2 ∷ [], refuse 5) ∷ [])  -- fxarithmetic-shift-left
+    ∷ unique 38 ((neg 23 ∷ pos 2 ∷ [], done (neg 92, pos 0)) ∷ (neg 23 ∷ neg 2 ∷ [], refused 5 2) ∷ [])  -- fxarithmetic-shift-left
     ∷ unique 39 ((neg 23 ∷ pos 2 ∷ [], done (neg 6, pos 0)) ∷ [])  -- fxarithmetic-shift-right
     ∷ unique 40 ((pos 4660 ∷ pos 4 ∷ pos 12 ∷ pos 4 ∷ [], done (pos 4900, pos 0)) ∷ [])  -- fxrotate-bit-field
     ∷ unique 41 ((pos 82 ∷ pos 1 ∷ pos 4 ∷ [], done (pos 88, pos 0)) ∷ [])  -- fxreverse-bit-field
@@ -137,78 +147,78 @@ rowResults = allFrom (λ code. Bool·beq (hasTwo (rowOf code .results)) (eqb cod
 -- both sides of each limit of a domain, at a width
 abbrev rowLimits : ℕ → List Bool
 rowLimits w =
-    refusal w 16 (pos 7 ∷ pos 0 ∷ []) 5
+    outside w 16 (pos 7 ∷ pos 0 ∷ []) 2
     ∷ refusal w 16 (pos 7 ∷ pos 1 ∷ []) 0
     ∷ refusal w 16 (pos 7 ∷ neg 1 ∷ []) 0
-    ∷ refusal w 17 (pos 7 ∷ pos 0 ∷ []) 5
+    ∷ outside w 17 (pos 7 ∷ pos 0 ∷ []) 2
     ∷ refusal w 17 (pos 7 ∷ pos 1 ∷ []) 0
     ∷ refusal w 17 (pos 7 ∷ neg 1 ∷ []) 0
-    ∷ refusal w 18 (pos 7 ∷ pos 0 ∷ []) 5
+    ∷ outside w 18 (pos 7 ∷ pos 0 ∷ []) 2
     ∷ refusal w 18 (pos 7 ∷ pos 1 ∷ []) 0
     ∷ refusal w 18 (pos 7 ∷ neg 1 ∷ []) 0
-    ∷ refusal w 19 (pos 7 ∷ pos 0 ∷ []) 5
+    ∷ outside w 19 (pos 7 ∷ pos 0 ∷ []) 2
     ∷ refusal w 19 (pos 7 ∷ pos 1 ∷ []) 0
     ∷ refusal w 19 (pos 7 ∷ neg 1 ∷ []) 0
-    ∷ refusal w 20 (pos 7 ∷ pos 0 ∷ []) 5
+    ∷ outside w 20 (pos 7 ∷ pos 0 ∷ []) 2
     ∷ refusal w 20 (pos 7 ∷ pos 1 ∷ []) 0
     ∷ refusal w 20 (pos 7 ∷ neg 1 ∷ []) 0
-    ∷ refusal w 21 (pos 7 ∷ pos 0 ∷ []) 5
+    ∷ outside w 21 (pos 7 ∷ pos 0 ∷ []) 2
     ∷ refusal w 21 (pos 7 ∷ pos 1 ∷ []) 0
     ∷ refusal w 21 (pos 7 ∷ neg 1 ∷ []) 0
-    ∷ refusal w 34 (pos 7 ∷ neg 1 ∷ pos 1 ∷ []) 5
+    ∷ outside w 34 (pos 7 ∷ neg 1 ∷ pos 1 ∷ []) 2
     ∷ refusal w 34 (pos 7 ∷ pos 0 ∷ pos 1 ∷ []) 0
     ∷ refusal w 34 (pos 7 ∷ pos (w - 1) ∷ pos 1 ∷ []) 0
-    ∷ refusal w 34 (pos 7 ∷ pos w ∷ pos 1 ∷ []) 5
-    ∷ refusal w 33 (pos 7 ∷ neg 1 ∷ []) 5
+    ∷ outside w 34 (pos 7 ∷ pos w ∷ pos 1 ∷ []) 2
+    ∷ outside w 33 (pos 7 ∷ neg 1 ∷ []) 2
     ∷ refusal w 33 (pos 7 ∷ pos 0 ∷ []) 0
     ∷ refusal w 33 (pos 7 ∷ pos (w - 1) ∷ []) 0
-    ∷ refusal w 33 (pos 7 ∷ pos w ∷ []) 5
-    ∷ refusal w 34 (pos 7 ∷ pos 3 ∷ neg 1 ∷ []) 5
+    ∷ outside w 33 (pos 7 ∷ pos w ∷ []) 2
+    ∷ outside w 34 (pos 7 ∷ pos 3 ∷ neg 1 ∷ []) 3
     ∷ refusal w 34 (pos 7 ∷ pos 3 ∷ pos 0 ∷ []) 0
     ∷ refusal w 34 (pos 7 ∷ pos 3 ∷ pos 1 ∷ []) 0
-    ∷ refusal w 34 (pos 7 ∷ pos 3 ∷ pos 2 ∷ []) 5
-    ∷ refusal w 35 (pos 7 ∷ neg 1 ∷ pos 4 ∷ []) 5
+    ∷ outside w 34 (pos 7 ∷ pos 3 ∷ pos 2 ∷ []) 3
+    ∷ outside w 35 (pos 7 ∷ neg 1 ∷ pos 4 ∷ []) 2
     ∷ refusal w 35 (pos 7 ∷ pos 0 ∷ pos (w - 1) ∷ []) 0
-    ∷ refusal w 35 (pos 7 ∷ pos 0 ∷ pos w ∷ []) 5
-    ∷ refusal w 35 (pos 7 ∷ pos 5 ∷ pos 4 ∷ []) 5
+    ∷ outside w 35 (pos 7 ∷ pos 0 ∷ pos w ∷ []) 3
+    ∷ outside w 35 (pos 7 ∷ pos 5 ∷ pos 4 ∷ []) 3
     ∷ refusal w 35 (pos 7 ∷ pos (w - 1) ∷ pos (w - 1) ∷ []) 0
-    ∷ refusal w 35 (pos 7 ∷ pos w ∷ pos w ∷ []) 5
-    ∷ refusal w 36 (pos 7 ∷ neg 1 ∷ pos 4 ∷ pos 9 ∷ []) 5
+    ∷ outside w 35 (pos 7 ∷ pos w ∷ pos w ∷ []) 2
+    ∷ outside w 36 (pos 7 ∷ neg 1 ∷ pos 4 ∷ pos 9 ∷ []) 2
     ∷ refusal w 36 (pos 7 ∷ pos 0 ∷ pos (w - 1) ∷ pos 9 ∷ []) 0
-    ∷ refusal w 36 (pos 7 ∷ pos 0 ∷ pos w ∷ pos 9 ∷ []) 5
-    ∷ refusal w 36 (pos 7 ∷ pos 5 ∷ pos 4 ∷ pos 9 ∷ []) 5
+    ∷ outside w 36 (pos 7 ∷ pos 0 ∷ pos w ∷ pos 9 ∷ []) 3
+    ∷ outside w 36 (pos 7 ∷ pos 5 ∷ pos 4 ∷ pos 9 ∷ []) 3
     ∷ refusal w 36 (pos 7 ∷ pos (w - 1) ∷ pos (w - 1) ∷ pos 9 ∷ []) 0
-    ∷ refusal w 36 (pos 7 ∷ pos w ∷ pos w ∷ pos 9 ∷ []) 5
-    ∷ refusal w 41 (pos 7 ∷ neg 1 ∷ pos 4 ∷ []) 5
+    ∷ outside w 36 (pos 7 ∷ pos w ∷ pos w ∷ pos 9 ∷ []) 2
+    ∷ outside w 41 (pos 7 ∷ neg 1 ∷ pos 4 ∷ []) 2
     ∷ refusal w 41 (pos 7 ∷ pos 0 ∷ pos (w - 1) ∷ []) 0
-    ∷ refusal w 41 (pos 7 ∷ pos 0 ∷ pos w ∷ []) 5
-    ∷ refusal w 41 (pos 7 ∷ pos 5 ∷ pos 4 ∷ []) 5
+    ∷ outside w 41 (pos 7 ∷ pos 0 ∷ pos w ∷ []) 3
+    ∷ outside w 41 (pos 7 ∷ pos 5 ∷ pos 4 ∷ []) 3
     ∷ refusal w 41 (pos 7 ∷ pos (w - 1) ∷ pos (w - 1) ∷ []) 0
-    ∷ refusal w 41 (pos 7 ∷ pos w ∷ pos w ∷ []) 5
-    ∷ refusal w 40 (pos 7 ∷ neg 1 ∷ pos 4 ∷ pos 0 ∷ []) 5
+    ∷ outside w 41 (pos 7 ∷ pos w ∷ pos w ∷ []) 2
+    ∷ outside w 40 (pos 7 ∷ neg 1 ∷ pos 4 ∷ pos 0 ∷ []) 2
     ∷ refusal w 40 (pos 7 ∷ pos 0 ∷ pos (w - 1) ∷ pos 0 ∷ []) 0
-    ∷ refusal w 40 (pos 7 ∷ pos 0 ∷ pos w ∷ pos 0 ∷ []) 5
-    ∷ refusal w 40 (pos 7 ∷ pos 5 ∷ pos 4 ∷ pos 0 ∷ []) 5
-    ∷ refusal w 40 (pos 7 ∷ pos 4 ∷ pos 12 ∷ neg 1 ∷ []) 5
+    ∷ outside w 40 (pos 7 ∷ pos 0 ∷ pos w ∷ pos 0 ∷ []) 3
+    ∷ outside w 40 (pos 7 ∷ pos 5 ∷ pos 4 ∷ pos 0 ∷ []) 3
+    ∷ outside w 40 (pos 7 ∷ pos 4 ∷ pos 12 ∷ neg 1 ∷ []) 4
     ∷ refusal w 40 (pos 7 ∷ pos 4 ∷ pos 12 ∷ pos 0 ∷ []) 0
     ∷ refusal w 40 (pos 7 ∷ pos 4 ∷ pos 12 ∷ pos 8 ∷ []) 0
-    ∷ refusal w 40 (pos 7 ∷ pos 4 ∷ pos 12 ∷ pos 9 ∷ []) 5
+    ∷ outside w 40 (pos 7 ∷ pos 4 ∷ pos 12 ∷ pos 9 ∷ []) 4
     ∷ refusal w 40 (pos 7 ∷ pos 4 ∷ pos 4 ∷ pos 0 ∷ []) 0
-    ∷ refusal w 40 (pos 7 ∷ pos 4 ∷ pos 4 ∷ pos 1 ∷ []) 5
+    ∷ outside w 40 (pos 7 ∷ pos 4 ∷ pos 4 ∷ pos 1 ∷ []) 4
     ∷ refusal w 40 (pos 7 ∷ pos 0 ∷ pos (w - 1) ∷ pos (w - 1) ∷ []) 0
-    ∷ refusal w 40 (pos 7 ∷ pos (w - 1) ∷ pos (w - 1) ∷ neg 1 ∷ []) 5
-    ∷ refusal w 37 (pos 0 ∷ (negℤ (pos w)) ∷ []) 5
+    ∷ outside w 40 (pos 7 ∷ pos (w - 1) ∷ pos (w - 1) ∷ neg 1 ∷ []) 4
+    ∷ outside w 37 (pos 0 ∷ (negℤ (pos w)) ∷ []) 2
     ∷ refusal w 37 (pos 0 ∷ (negℤ (pos (w - 1))) ∷ []) 0
     ∷ refusal w 37 (pos 0 ∷ pos (w - 1) ∷ []) 0
-    ∷ refusal w 37 (pos 0 ∷ pos w ∷ []) 5
-    ∷ refusal w 38 (pos 0 ∷ neg 1 ∷ []) 5
+    ∷ outside w 37 (pos 0 ∷ pos w ∷ []) 2
+    ∷ outside w 38 (pos 0 ∷ neg 1 ∷ []) 2
     ∷ refusal w 38 (pos 0 ∷ pos 0 ∷ []) 0
     ∷ refusal w 38 (pos 0 ∷ pos (w - 1) ∷ []) 0
-    ∷ refusal w 38 (pos 0 ∷ pos w ∷ []) 5
-    ∷ refusal w 39 (pos 0 ∷ neg 1 ∷ []) 5
+    ∷ outside w 38 (pos 0 ∷ pos w ∷ []) 2
+    ∷ outside w 39 (pos 0 ∷ neg 1 ∷ []) 2
     ∷ refusal w 39 (pos 0 ∷ pos 0 ∷ []) 0
     ∷ refusal w 39 (pos 0 ∷ pos (w - 1) ∷ []) 0
-    ∷ refusal w 39 (pos 0 ∷ pos w ∷ []) 5
+    ∷ outside w 39 (pos 0 ∷ pos w ∷ []) 2
     ∷ []
 
 -- both sides of a width's range: an argument, and an exact result
@@ -231,8 +241,8 @@ rowRanges =
     ∷ refusal 24 38 (pos 1 ∷ pos 23 ∷ []) 6
     ∷ refusal 24 37 (neg 1 ∷ pos 23 ∷ []) 0
     ∷ refusal 24 38 (pos 1 ∷ pos 22 ∷ []) 0
-    ∷ refusal 24 25 (pos 8388608 ∷ []) 4
-    ∷ refusal 24 25 (neg 8388609 ∷ []) 4
+    ∷ refusedAt 24 25 (pos 8388608 ∷ []) 4 1
+    ∷ refusedAt 24 25 (neg 8388609 ∷ []) 4 1
     ∷ refusal 24 25 (pos 8388607 ∷ []) 0
     ∷ refusal 24 25 (neg 8388608 ∷ []) 0
     ∷ refusal 62 16 (neg 2305843009213693952 ∷ neg 1 ∷ []) 6
@@ -252,8 +262,8 @@ rowRanges =
     ∷ refusal 62 38 (pos 1 ∷ pos 61 ∷ []) 6
     ∷ refusal 62 37 (neg 1 ∷ pos 61 ∷ []) 0
     ∷ refusal 62 38 (pos 1 ∷ pos 60 ∷ []) 0
-    ∷ refusal 62 25 (pos 2305843009213693952 ∷ []) 4
-    ∷ refusal 62 25 (neg 2305843009213693953 ∷ []) 4
+    ∷ refusedAt 62 25 (pos 2305843009213693952 ∷ []) 4 1
+    ∷ refusedAt 62 25 (neg 2305843009213693953 ∷ []) 4 1
     ∷ refusal 62 25 (pos 2305843009213693951 ∷ []) 0
     ∷ refusal 62 25 (neg 2305843009213693952 ∷ []) 0
     ∷ []
@@ -263,7 +273,7 @@ abbrev programs : List Bool
 programs =
     gives 24 37 (pos 1 ∷ pos 22 ∷ []) 2 (done (pos 4194304, pos 0))
     ∷ gives 24 37 (pos 1 ∷ pos 23 ∷ []) 2 (refuse 6)
-    ∷ gives 24 37 (pos 1 ∷ pos 24 ∷ []) 2 (refuse 5)
+    ∷ gives 24 37 (pos 1 ∷ pos 24 ∷ []) 2 (refused 5 2)
     ∷ gives 24 37 (neg 1 ∷ pos 23 ∷ []) 2 (done (neg 8388608, pos 0))
     ∷ gives 23 25 (pos 0 ∷ []) 1 (refuse 1)
     ∷ gives 63 25 (pos 0 ∷ []) 1 (refuse 1)
@@ -272,25 +282,40 @@ programs =
     ∷ gives 24 0 (pos 0 ∷ []) 5 (refuse 2)
     ∷ gives 24 42 (pos 0 ∷ []) 5 (refuse 2)
     ∷ gives 24 16 (pos 8388608 ∷ []) 1 (refuse 3)
-    ∷ gives 24 16 (pos 8388608 ∷ pos 0 ∷ []) 2 (refuse 4)
-    ∷ gives 24 40 (pos 1 ∷ pos 5 ∷ pos 4 ∷ pos 8388608 ∷ []) 4 (refuse 4)
-    ∷ gives 24 16 (neg 8388608 ∷ pos 0 ∷ []) 2 (refuse 5)
+    ∷ gives 24 16 (pos 8388608 ∷ pos 0 ∷ []) 2 (refused 4 1)
+    ∷ gives 24 40 (pos 1 ∷ pos 5 ∷ pos 4 ∷ pos 8388608 ∷ []) 4 (refused 4 4)
+    ∷ gives 24 16 (neg 8388608 ∷ pos 0 ∷ []) 2 (refused 5 2)
     -- a full rotation, and an empty field
     ∷ gives 24 40 (neg 4661 ∷ pos 4 ∷ pos 12 ∷ pos 8 ∷ []) 4 (done (neg 4661, pos 0))
-    ∷ gives 24 40 (pos 1 ∷ pos 4 ∷ pos 12 ∷ pos 9 ∷ []) 4 (refuse 5)
+    ∷ gives 24 40 (pos 1 ∷ pos 4 ∷ pos 12 ∷ pos 9 ∷ []) 4 (refused 5 4)
     ∷ gives 24 40 (neg 4661 ∷ pos 4 ∷ pos 4 ∷ pos 0 ∷ []) 4 (done (neg 4661, pos 0))
-    ∷ gives 24 40 (pos 1 ∷ pos 4 ∷ pos 4 ∷ pos 1 ∷ []) 4 (refuse 5)
+    ∷ gives 24 40 (pos 1 ∷ pos 4 ∷ pos 4 ∷ pos 1 ∷ []) 4 (refused 5 4)
     -- fx- against fx+ and fx*
     ∷ gives 24 15 (neg 8388608 ∷ pos 1 ∷ []) 2 (refuse 5)
     ∷ gives 24 13 (pos 8388607 ∷ pos 1 ∷ []) 2 (refuse 6)
     ∷ gives 24 14 (pos 4194304 ∷ pos 2 ∷ []) 2 (refuse 6)
     ∷ []
 
-pub cases-rows : (all rowAnswers ≡ true) × (all rowCounts ≡ true) × (all rowResults ≡ true) × (all (rowLimits 24) ≡ true) × (all (rowLimits 62) ≡ true) × (all rowRanges ≡ true) × (all programs ≡ true)
+-- of several arguments, the first gives the place: each tested against those before it, and those past the count not at all
+abbrev places : List Bool
+places =
+    gives 24 26 (pos 1 ∷ pos 8388608 ∷ neg 8388609 ∷ pos 2 ∷ []) 4 (refused 4 2)
+    ∷ gives 24 26 (pos 1 ∷ pos 2 ∷ neg 8388609 ∷ pos 8388608 ∷ []) 4 (refused 4 3)
+    ∷ gives 24 26 (pos 1 ∷ pos 2 ∷ pos 3 ∷ pos 8388608 ∷ []) 3 (done (pos 0, pos 0))
+    ∷ gives 24 36 (pos 1 ∷ neg 1 ∷ pos 24 ∷ pos 8388608 ∷ []) 4 (refused 4 4)
+    ∷ gives 24 40 (pos 1 ∷ pos 24 ∷ pos 24 ∷ neg 1 ∷ []) 4 (refused 5 2)
+    ∷ gives 24 40 (pos 1 ∷ neg 2 ∷ neg 1 ∷ pos 0 ∷ []) 4 (refused 5 2)
+    ∷ gives 24 40 (pos 1 ∷ pos 12 ∷ pos 4 ∷ pos 9 ∷ []) 4 (refused 5 3)
+    ∷ gives 24 40 (pos 1 ∷ pos 0 ∷ pos 24 ∷ pos 25 ∷ []) 4 (refused 5 3)
+    ∷ gives 24 40 (pos 1 ∷ pos 12 ∷ pos 12 ∷ neg 1 ∷ []) 4 (refused 5 4)
+    ∷ gives 24 34 (pos 1 ∷ pos 24 ∷ pos 2 ∷ []) 3 (refused 5 2)
+    ∷ []
+
+pub cases-rows : (all rowAnswers ≡ true) × (all rowCounts ≡ true) × (all rowResults ≡ true) × (all (rowLimits 24) ≡ true) × (all (rowLimits 62) ≡ true) × (all rowRanges ≡ true) × (all programs ≡ true) × (all places ≡ true)
 unfolding xor odd testbit halvings bitLength consBit ofBits fits isNegative fill bitwise bitwiseNot bitwiseAnd bitwiseIor bitwiseXor bitwiseIf bitwiseFrom bitwiseAll bitwiseAnds bitwiseIors bitwiseXors
     onesBelow ones bitCount firstTrue firstBitSet floorDiv shiftLeft shiftRight arithmeticShift div modℕ «mod» div0 mod0
     inField rotateIndex reverseIndex setField permuteField bitField copyBit copyBitField rotateBitField reverseBitField
-    guard guardAt answer leastWidth largestWidth isWidth arg within accepts inDomainsFrom inDomains resultsOf hasTwo partsOf
+    guard guardAt allHold firstFailedFrom firstFailed guardEach answer leastWidth largestWidth isWidth arg within accepts domainTestsFrom domainTests resultsOf hasTwo partsOf
     truth equal greater greaterOrEqual chainFrom chain isZero isPositive isBelowZero isOdd isEven foldFrom larger smaller largest smallest minus
-    rows noRow isCode rowOf counted isCount allFixnums checked outcome fixnumAnswer
-cases-rows = (refl, refl, refl, refl, refl, refl, refl)
+    rows noRow isCode rowOf counted isCount fixnumTests checked outcome fixnumAnswer
+cases-rows = (refl, refl, refl, refl, refl, refl, refl, refl)

@@ -27,6 +27,22 @@ pub of-row : (p : Row → Bool) → allRows p rows ≡ true → p noRow ≡ true
 unfolding rowOf
 of-row p h k code = all-getD p (noRow ∷ rows) noRow (rw (k, h)) k code
 
+-- the same, of a test that looks at the code too
+abbrev allCodes : (ℕ → Row → Bool) → ℕ → List Row → Bool
+allCodes p i [] = true
+allCodes p i (r ∷ rs) = p i r && allCodes p (suc i) rs
+
+codes-getD : (p : ℕ → Row → Bool) (i : ℕ) (rs : List Row) (d : Row) → allCodes p i rs ≡ true → (j : ℕ) → j < length rs → p (i + j) (getD rs j d) ≡ true
+codes-getD p i [] d h j l = absurd (not-suc-le-zero l)
+codes-getD p i (r ∷ rs) d h zero l = subst (λ (k : ℕ). p k r ≡ true) (omega arith) (both-left (p i r) (allCodes p (suc i) rs) h)
+codes-getD p i (r ∷ rs) d h (suc j) l =
+    subst (λ (k : ℕ). p k (getD rs j d) ≡ true) (omega arith) (codes-getD p (suc i) rs d (both-right (p i r) (allCodes p (suc i) rs) h) j (le-of-suc-le-suc l))
+
+pub of-code : (p : ℕ → Row → Bool) → allCodes p 0 (noRow ∷ rows) ≡ true → (code : ℕ) → isCode code ≡ true → p code (rowOf code) ≡ true
+unfolding rowOf isCode rows
+of-code p h code c =
+    subst (λ (k : ℕ). p k (getD (noRow ∷ rows) code noRow) ≡ true) (omega arith) (codes-getD p 0 (noRow ∷ rows) noRow h code (omega (arith, between 1 code 41 c)))
+
 -- no code takes more than four arguments
 most-four : (code : ℕ) → rowOf code .most ≤ 4
 unfolding rows noRow

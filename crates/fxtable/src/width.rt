@@ -1,9 +1,7 @@
 // The widths that are accepted, and the fixnums of a width.
 ghost use mathlib.Core.Path.{_≡_};
-ghost use mathlib.Core.Bool.{true, _&&_};
-ghost use Prim.Native.Nat.{_≤_};
+ghost use mathlib.Core.Bool.{_&&_};
 ghost use Rattle.bits.specs.Testbit.{fits};
-ghost use Rattle.fxtable.specs.Calls.{counted, allFixnums};
 ghost use Rattle.fxtable.specs.Domains.{isWidth};
 use words::sign;
 

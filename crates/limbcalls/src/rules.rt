@@ -1,10 +1,12 @@
-// What each bitwise operation takes, and why a call is refused.
+// What each bitwise operation takes.
 ghost use Prim.Native.Nat.{_≤_};
-use line::refusal::is_position;
-use line::refusal::outside_field;
+use fxtable::domains::Domain;
+use limbstages::check::LAST_BIT;
+use limbstages::check::LAST_END;
 use line::refusal::put_argument;
-use line::refusal::put_refused;
+use line::roles::domain_of;
 use output::put;
+use output::put_decimal;
 
 // How many arguments an operation takes.
 pub fn arity(index: u64) -> usize
@@ -30,67 +32,57 @@ pub fn numbers_of(index: u64) -> usize
     }
 }
 
-// The rule for the numbers of an operation.
-pub fn put_domain(index: u64, out: &mut [u8], at: usize) -> usize {
+// The fixnum operation that a bitwise operation is at every width: its code, from the number of the bitwise one.
+pub fn likeness(index: u64) -> u64 {
+    if index <= 17 { index + 24 } else { 0 }
+}
+
+// `must be from start to 32767`
+fn put_range(first: &[u8], last: i64, out: &mut [u8], at: usize) -> usize {
+    let at = put(b"must be from ", out, at);
+    let at = put(first, out, at);
+    let at = put(b" to ", out, at);
+    put_decimal(last, out, at)
+}
+
+// The rule of a position or a start.
+fn put_position_rule(index: u64, out: &mut [u8], at: usize) -> usize {
     match index {
-        9 => put(b"argument 2, the position, must be at least 0", out, at),
-        10 => put(
-            b"argument 2, the position, must be from 0 to 32766, and argument 3, the bit, 0 or 1",
-            out,
-            at,
-        ),
-        16 => put(
-            b"arguments 2 and 3, start and end, must be from 0 to 32767, start at most end, and argument 4, the count, at least 0",
-            out,
-            at,
-        ),
-        14 | 15 => put(b"argument 2, the distance, must be at least 0", out, at),
-        _ => put(
-            b"arguments 2 and 3, start and end, must be from 0 to 32767, and start at most end",
-            out,
-            at,
-        ),
+        9 => put(b"must be at least 0", out, at),
+        10 => put_range(b"0", LAST_BIT, out, at),
+        _ => put_range(b"0", LAST_END, out, at),
     }
 }
 
-// The argument that is outside its domain, counted from 0.
-fn outside(index: u64, v: [i64; 4]) -> usize {
-    match index {
-        10 => { if is_position(v[1], 32766) { 2 } else { 1 } }
-        11 | 12 | 16 | 17 => outside_field(v[1], v[2], 32767),
-        _ => 1,
+// The rule of a number, by its place among the arguments.
+pub fn put_rule(index: u64, place: u64, out: &mut [u8], at: usize) -> usize {
+    let domain = domain_of(likeness(index), place);
+    match domain {
+        Domain::Position => put_position_rule(index, out, at),
+        Domain::FieldEnd => put_range(b"start", LAST_END, out, at),
+        Domain::NewBit => put(b"must be 0 or 1", out, at),
+        _ => put(b"must be at least 0", out, at),
     }
 }
 
-fn put_reason(index: u64, v: [i64; 4], refusal: u64, out: &mut [u8], at: usize) -> usize {
-    match refusal {
-        5 => {
-            let at = put_argument(outside(index, v), v, out, at);
-            put_domain(index, out, at)
+// `argument 2, the position, must be at least 0`, on a line of its own, unless the argument is an operand, or a signed distance, which may be
+// any number.
+fn put_domain(index: u64, place: u64, out: &mut [u8], at: usize) -> usize {
+    let domain = domain_of(likeness(index), place);
+    match domain {
+        Domain::Fixnum | Domain::SignedDistance => at,
+        _ => {
+            let at = put_argument(likeness(index), place, out, at);
+            let at = put(b" ", out, at);
+            let at = put_rule(index, place, out, at);
+            put(b"\n", out, at)
         }
-        6 => put(
-            b"the exact result must have at most 1024 limbs of 32 bits",
-            out,
-            at,
-        ),
-        7 => put(
-            b"an operand must have at most 1024 limbs of 32 bits",
-            out,
-            at,
-        ),
-        _ => put(b"the result must fit its buffer", out, at),
     }
 }
 
-// The line of a refused call.
-pub fn put_bitwise_refusal(
-    index: u64,
-    v: [i64; 4],
-    refusal: u64,
-    out: &mut [u8],
-    at: usize,
-) -> usize {
-    let at = put_refused(refusal, out, at);
-    let at = put_reason(index, v, refusal, out, at);
-    put(b"\n", out, at)
+// The domains of an operation's numbers.
+pub fn put_bitwise_domains(index: u64, out: &mut [u8], at: usize) -> usize {
+    let at = put_domain(index, 2, out, at);
+    let at = put_domain(index, 3, out, at);
+    put_domain(index, 4, out, at)
 }

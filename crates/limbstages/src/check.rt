@@ -9,9 +9,10 @@ use words::range::within;
 
 pub const MOST_LIMBS: usize = 1024;
 
-const LAST_END: i64 = 32767;
+// The greatest end of a field, and the greatest position of a new bit.
+pub const LAST_END: i64 = 32767;
 
-const LAST_BIT: i64 = 32766;
+pub const LAST_BIT: i64 = 32766;
 
 // A number that may not be negative.
 pub enum Natural {

@@ -6,6 +6,7 @@ ghost use Rattle.io.specs.Counts.{Counts};
 pub mod number;
 pub mod refusal;
 pub mod reply;
+pub mod roles;
 pub mod trouble;
 
 use check::same;

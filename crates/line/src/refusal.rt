@@ -1,12 +1,11 @@
 // What is said of a refused call, of either kind.
+use super::roles::put_role;
 use names::Table;
 use names::put_name;
 use output::put;
 use output::put_decimal;
 use output::put_if;
 use output::put_natural;
-use words::sign::absolute;
-use words::sign::is_negative;
 
 // `24`, or `24 to 30`.
 pub fn put_span(first: u64, last: u64, out: &mut [u8], at: usize) -> usize {
@@ -48,30 +47,27 @@ pub fn put_refused(refusal: u64, out: &mut [u8], at: usize) -> usize {
     put(b": ", out, at)
 }
 
-pub fn is_position(n: i64, last: u64) -> bool {
-    !is_negative(n) && absolute(n) <= last
-}
-
-// Of start and end, arguments 1 and 2 from 0, the first that makes no field from 0 to a last position, the end given the start; 3 where they
-// make one.
-pub fn outside_field(start: i64, end: i64, last: u64) -> usize {
-    if !is_position(start, last) {
-        1
-    } else if !is_position(end, last) || end < start {
-        2
-    } else {
-        3
-    }
-}
-
-// `argument 2 is -7: ` of the argument that is number 1 from 0.
-pub fn put_argument(i: usize, args: [i64; 4], out: &mut [u8], at: usize) -> usize {
-    if 4 <= i {
-        return at;
-    }
+// `argument 2, the start,`, or `argument 1` of one without a role.
+pub fn put_argument(code: u64, place: u64, out: &mut [u8], at: usize) -> usize {
     let at = put(b"argument ", out, at);
-    let at = put_natural(i as u64 + 1, out, at);
+    let at = put_natural(place, out, at);
+    put_role(code, place, out, at)
+}
+
+// An argument, by its place from 1 to 4.
+fn argument_at(place: u64, args: [i64; 4]) -> i64 {
+    match place {
+        1 => args[0],
+        2 => args[1],
+        3 => args[2],
+        _ => args[3],
+    }
+}
+
+// `argument 2, the start, is -1: it `
+pub fn put_offender(code: u64, place: u64, args: [i64; 4], out: &mut [u8], at: usize) -> usize {
+    let at = put_argument(code, place, out, at);
     let at = put(b" is ", out, at);
-    let at = put_decimal(args[i], out, at);
-    put(b": ", out, at)
+    let at = put_decimal(argument_at(place, args), out, at);
+    put(b": it ", out, at)
 }

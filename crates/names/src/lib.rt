@@ -17,7 +17,7 @@ batch"
 }
 
 // The fixnum operations in the order of their codes: a line has a name and its arguments.
-fn fixnum_lines() -> [u8; 660] {
+fn fixnum_lines() -> [u8; 664] {
     *b"fx=? x y ..
 fx>? x y ..
 fx<? x y ..
@@ -51,7 +51,7 @@ fxbit-count x
 fxlength x
 fxfirst-bit-set x
 fxbit-set? x position
-fxcopy-bit x position bit
+fxcopy-bit x position new-bit
 fxbit-field x start end
 fxcopy-bit-field x start end y
 fxarithmetic-shift x distance
@@ -62,7 +62,7 @@ fxreverse-bit-field x start end"
 }
 
 // The bitwise operations have no codes: here they are counted from 1, in R6RS's order.
-fn bitwise_lines() -> [u8; 466] {
+fn bitwise_lines() -> [u8; 470] {
     *b"bitwise-not x
 bitwise-and x y
 bitwise-ior x y
@@ -72,7 +72,7 @@ bitwise-bit-count x
 bitwise-length x
 bitwise-first-bit-set x
 bitwise-bit-set? x position
-bitwise-copy-bit x position bit
+bitwise-copy-bit x position new-bit
 bitwise-bit-field x start end
 bitwise-copy-bit-field x start end y
 bitwise-arithmetic-shift x distance

@@ -1,4 +1,5 @@
 pub mod OutcomeLaws
+pub mod TestLaws
 pub mod PutsLaws
 pub mod BufferLaws
 pub mod Cases

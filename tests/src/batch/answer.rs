@@ -6,10 +6,11 @@
 use super::expected::Expected::{self, *};
 use super::expected::LONGEST_LINE;
 use super::form::Form;
+use super::reason::Reason;
 use super::{reader, text};
 use crate::call::LimbCall;
 use crate::operation::BITWISE_NAMES;
-use crate::reference::fixnum::fixnum;
+use crate::reference::fixnum::{fixnum, Answer};
 use crate::refusal::{COUNT, DONE};
 
 pub fn expected(line: &str) -> Expected {
@@ -33,10 +34,10 @@ fn fixnum_call(words: &[&str]) -> Result<Expected, Expected> {
     let numbers: Vec<i64> = (3..words.len()).map(|i| read(words, i, reader::number)).collect::<Result<_, _>>()?;
     let (Form::Name(code) | Form::Code(code)) = form else { unreachable!("no bitwise operation has been read") };
     let mut args = [0; 4];
-    args.iter_mut().zip(&numbers).for_each(|(place, &n)| *place = n);
-    let (refusal, first, second) = fixnum(width, code, args, numbers.len() as u64);
+    args.iter_mut().zip(&numbers).for_each(|(arg, &n)| *arg = n);
+    let Answer { refusal, first, second, place } = fixnum(width, code, args, numbers.len() as u64);
     if refusal != DONE {
-        return Ok(Refused(refusal));
+        return Ok(Refused(refusal, Reason::of_fixnum(code, args, place)));
     }
     let two = matches!(code, 18 | 21..=24);
     let first = text::number(first);
@@ -50,7 +51,7 @@ fn bitwise_call(words: &[&str]) -> Result<Expected, Expected> {
     let operation = BITWISE_NAMES[place].1;
     let count = words.len() - 2;
     if count != operation.operands() + operation.numbers() {
-        return Ok(Refused(COUNT));
+        return Ok(Refused(COUNT, Reason::Free));
     }
     let (mut operands, mut numbers) = (Vec::new(), Vec::new());
     for i in 0..count {
@@ -67,7 +68,7 @@ fn bitwise_call(words: &[&str]) -> Result<Expected, Expected> {
     } else {
         call.value().map(text::number)
     };
-    Ok(result.map_or_else(Refused, |text| Done(form, text)))
+    Ok(result.map_or_else(|refusal| Refused(refusal, Reason::Free), |text| Done(form, text)))
 }
 
 /// What the word in that place says, places counted from 0.
@@ -125,9 +126,32 @@ mod tests {
             ("bitwise bitwise-bit-set? -4 -1", 5),
             ("bitwise bitwise-arithmetic-shift 1 32767", 6),
         ] {
-            assert_eq!(expected(line), Refused(number), "{line}");
+            assert!(matches!(expected(line), Refused(n, _) if n == number), "{line}");
         }
-        assert_eq!(expected(&format!("bitwise bitwise-length 0x8{}", "0".repeat(8191))), Refused(7));
+        let longest = format!("bitwise bitwise-length 0x8{}", "0".repeat(8191));
+        assert_eq!(expected(&longest), Refused(7, Reason::Free));
+    }
+
+    #[test]
+    fn reasons() {
+        for (line, reason) in [
+            ("fx 24 fxnot 8388608", "refused 4: argument 1 is 8388608: .."),
+            ("fx 24 fxif 0 0x7fffffffffffffff 8388608", "refused 4: argument 2 is 9223372036854775807: .."),
+            ("fx 24 fxdiv 1 -8388609", "refused 4: argument 2, the divisor, is -8388609: .."),
+            ("fx 24 fxcopy-bit-field 1 9 3 -8388609", "refused 4: argument 4 is -8388609: .."),
+            ("fx 24 fxmod0 1 -0", "refused 5: argument 2, the divisor, is 0: .."),
+            ("fx 24 fxbit-set? 1 0x18", "refused 5: argument 2, the position, is 24: .."),
+            ("fx 24 fxcopy-bit 1 23 2", "refused 5: argument 3, the new bit, is 2: .."),
+            ("fx 24 39 1 -1", "refused 5: argument 2, the distance, is -1: .."),
+            ("fx 24 fxbit-field 1 -1 -2", "refused 5: argument 2, the start, is -1: .."),
+            ("fx 24 fxreverse-bit-field 1 5 3", "refused 5: argument 3, the end, is 3: .."),
+            ("fx 24 fxrotate-bit-field 1 3 5 3", "refused 5: argument 4, the count, is 3: .."),
+            ("fx 24 fx- -8388608", "refused 5: .., naming no argument first"),
+            ("fx 24 fx+ 8388607 1", "refused 6: .., naming no argument first"),
+            ("bitwise bitwise-bit-set? -4 -1", "refused 5: .."),
+        ] {
+            assert_eq!(expected(line).to_string(), reason, "{line}");
+        }
     }
 
     #[test]

@@ -1,6 +1,7 @@
 //! What an answer line of `ql batch` has to be, and which part of it is compared.
 
 use super::form::Form;
+use super::reason::Reason;
 use std::fmt;
 
 /// The most bytes of a line.
@@ -13,7 +14,7 @@ pub enum Expected {
     /// The line has no word.
     Empty,
     Done(Form, String),
-    Refused(u64),
+    Refused(u64, Reason),
     /// The number of the first word that cannot be read, and the word.
     Unreadable(usize, String),
     /// The number of the word that is missing.
@@ -30,7 +31,10 @@ impl Expected {
             Empty => answer.is_empty(),
             Done(_, text) => answer == text.as_bytes(),
             TooLong => answer == format!("ql: a line has more than {LONGEST_LINE} bytes").as_bytes(),
-            Refused(number) => answer.starts_with(format!("refused {number}: ").as_bytes()),
+            Refused(number, reason) => {
+                let rest = answer.strip_prefix(format!("refused {number}: ").as_bytes());
+                rest.is_some_and(|rest| reason.is_met_by(rest))
+            }
             Missing(place) => answer.starts_with(format!("ql: word {place} is missing: ").as_bytes()),
             Unreadable(place, word) if word.len() <= SHOWN => {
                 answer.starts_with(format!("ql: word {place} is '{word}', and ").as_bytes())
@@ -46,7 +50,7 @@ impl Expected {
     pub fn status(&self) -> i32 {
         match self {
             Empty | Done(..) => 0,
-            Refused(_) => 1,
+            Refused(..) => 1,
             Unreadable(..) | Missing(_) | TooLong => 2,
         }
     }
@@ -57,7 +61,7 @@ impl fmt::Display for Expected {
         match self {
             Empty => write!(f, "an empty line"),
             Done(_, text) => write!(f, "{text}"),
-            Refused(number) => write!(f, "refused {number}: .."),
+            Refused(number, reason) => write!(f, "refused {number}: {reason}"),
             Unreadable(place, word) => write!(f, "ql: word {place} is '{word}', and .."),
             Missing(place) => write!(f, "ql: word {place} is missing: .."),
             TooLong => write!(f, "ql: a line has more than {LONGEST_LINE} bytes"),
@@ -71,7 +75,10 @@ mod tests {
 
     #[test]
     fn answers_are_told_apart() {
-        assert!(Refused(3).is_met_by(b"refused 3: x") && !Refused(3).is_met_by(b"refused 31: x"));
+        let refused = Refused(3, Reason::Free);
+        assert!(refused.is_met_by(b"refused 3: x") && !refused.is_met_by(b"refused 31: x"));
+        let refused = Refused(5, Reason::NoArgument);
+        assert!(refused.is_met_by(b"refused 5: x") && !refused.is_met_by(b"refused 5: argument 1 is 2: x"));
         let short = Unreadable(4, "x".to_string());
         assert!(short.is_met_by(b"ql: word 4 is 'x', and a number") && !short.is_met_by(b"ql: word 4 is 'xy', and"));
         let long = Unreadable(4, "x".repeat(50));

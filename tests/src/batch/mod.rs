@@ -6,6 +6,7 @@
 //! - `text`: a result as text
 //! - `answer`: the answer to a line, by `reader` and the second implementation
 //! - `expected`: such an answer, and how an answer line is compared with it
+//! - `reason`: how the reason of a refusal begins
 //! - `form`: the operations as a line can name them
 
 pub mod answer;
@@ -14,4 +15,5 @@ pub mod form;
 pub mod lines;
 pub mod numeral;
 pub mod reader;
+pub mod reason;
 pub mod text;

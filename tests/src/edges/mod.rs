@@ -3,6 +3,7 @@
 mod conversion;
 mod fixnum;
 mod fixnum_fields;
+mod fixnum_places;
 mod limb_fields;
 mod limb_operands;
 mod limb_positions;
@@ -14,6 +15,7 @@ use crate::checker::Checker;
 pub fn fixnum(checker: &mut Checker) {
     fixnum::run(checker);
     fixnum_fields::run(checker);
+    fixnum_places::run(checker);
 }
 
 pub fn limbs(checker: &mut Checker) {

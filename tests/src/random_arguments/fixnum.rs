@@ -1,7 +1,7 @@
 //! Random fixnum calls.
 
 use crate::call::FixnumCall;
-use crate::fixnum_arguments::{kind, least, numbers, positions, random_fixnum, Kind, NEW_BITS};
+use crate::fixnum_arguments::{greatest, kind, least, numbers, positions, random_fixnum, Kind, NEW_BITS};
 use crate::random::Random;
 use crate::reference::fixnum::argument_counts;
 
@@ -20,6 +20,11 @@ pub fn call(random: &mut Random) -> FixnumCall {
         37 | 38 => shrink(random, code, &mut args),
         35 | 36 | 40 | 41 => order_field(random, fixnum_width, code, &mut args),
         _ => {}
+    }
+    // An argument that is no fixnum, beside those of any value: a rotation count is seldom one.
+    if random.one_in(32) {
+        let beyond = [i64::MIN, least(fixnum_width) - 1, greatest(fixnum_width) + 1, i64::MAX];
+        args[random.below(4) as usize] = random.choose(&beyond);
     }
     FixnumCall { width, code, count, args }
 }
@@ -100,7 +105,8 @@ fn rotation_count(random: &mut Random, f: i64) -> i64 {
 #[cfg(test)]
 mod tests {
     use super::*;
-    use crate::reference::fixnum::fixnum;
+    use crate::fixnum_answers::fixnum_answers;
+    use crate::reference::fixnum::{fixnum, Answer};
     use crate::refusal::{DOMAIN, DONE};
 
     /// Of every hundred calls of code 40, how many have that answer and a field and count as `is` says, given the
@@ -111,7 +117,7 @@ mod tests {
         let chosen = |call: &FixnumCall| {
             let [_, start, end, count] = call.args;
             let f = end.wrapping_sub(start);
-            fixnum(call.width, 40, call.args, call.count).0 == answer && is(call.width as i64, f, count)
+            fixnum(call.width, 40, call.args, call.count).refusal == answer && is(call.width as i64, f, count)
         };
         calls.take(10_000).filter(chosen).count() / 100
     }
@@ -124,5 +130,25 @@ mod tests {
         assert!(share(DOMAIN, |_, f, count| f >= 0 && count == f + 1) >= 1);
         assert!(share(DOMAIN, |_, f, count| f >= 0 && count == -1) >= 1);
         assert!(share(DONE, |_, f, count| 0 < count && count < f) >= 40);
+    }
+
+    /// One in two hundred calls of a code, at least, has each answer that the code can give, by refusal and place.
+    #[test]
+    fn every_answer_comes_often() {
+        let mut random = Random::new(2);
+        let (mut calls, mut answers) = ([0; 42], [[[0; 5]; 7]; 42]);
+        for _ in 0..400_000 {
+            let call = call(&mut random);
+            let Answer { refusal, place, .. } = fixnum(call.width, call.code, call.args, call.count);
+            let row = if call.code <= 41 { call.code as usize } else { 0 };
+            calls[row] += 1;
+            answers[row][refusal as usize][place as usize] += 1;
+        }
+        for code in 1..=41 {
+            for (refusal, place) in fixnum_answers(code as u64) {
+                let count = answers[code][refusal as usize][place as usize];
+                assert!(200 * count >= calls[code], "code {code}: refusal {refusal}, place {place} came {count} times");
+            }
+        }
     }
 }

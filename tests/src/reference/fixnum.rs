@@ -1,41 +1,47 @@
-//! The fixnum calls: the table of argument counts, the domains, and the order of the refusals.
+//! The fixnum calls: the table of argument counts, the domains, and the order and places of the refusals.
 
 use super::fixnum_results::exact;
 use crate::refusal::{CODE, COUNT, DOMAIN, DONE, NOT_FIXNUM, SIZE, WIDTH};
 use std::ops::RangeInclusive;
 
-/// The answer of a fixnum call: refusal number, first and second result.
-pub fn fixnum(width: u64, code: u64, args: [i64; 4], count: u64) -> (u64, i64, i64) {
-    match results(width, code, args, count) {
-        Ok((first, second)) => (DONE, first, second),
-        Err(refusal) => (refusal, 0, 0),
-    }
+/// The answer of a fixnum call: refusal number, both results, and the place. The place is the number of the argument,
+/// from 1, that refusal 4 or 5 is about, and otherwise 0.
+#[derive(Clone, Copy, Debug, PartialEq, Eq)]
+pub struct Answer {
+    pub refusal: u64,
+    pub first: i64,
+    pub second: i64,
+    pub place: u64,
 }
 
-fn results(width: u64, code: u64, args: [i64; 4], count: u64) -> Result<(i64, i64), u64> {
+fn refused(refusal: u64, place: u64) -> Answer {
+    Answer { refusal, first: 0, second: 0, place }
+}
+
+/// The refusals are tested in their order, and for 4 and 5 the counted arguments from left to right.
+pub fn fixnum(width: u64, code: u64, args: [i64; 4], count: u64) -> Answer {
     if !is_width(width) {
-        return Err(WIDTH);
+        return refused(WIDTH, 0);
     }
     if !(1..=41).contains(&code) {
-        return Err(CODE);
+        return refused(CODE, 0);
     }
     if !argument_counts(code).contains(&count) {
-        return Err(COUNT);
+        return refused(COUNT, 0);
     }
     let args = args.map(i128::from);
-    let counted = &args[..count as usize];
-    if !counted.iter().all(|&x| is_fixnum(width, x)) {
-        return Err(NOT_FIXNUM);
+    if let Some(place) = (1..=count).find(|&place| !is_fixnum(width, args[place as usize - 1])) {
+        return refused(NOT_FIXNUM, place);
     }
-    if !in_domain(code, i128::from(width), counted) {
-        return Err(DOMAIN);
+    if let Some(place) = (1..=count).find(|&place| !in_domain(code, width, args, place)) {
+        return refused(DOMAIN, place);
     }
-    let (first, second) = exact(code, width as u32, counted);
+    let (first, second) = exact(code, width as u32, &args[..count as usize]);
     if !is_fixnum(width, first) {
-        return Err(outgrown(code));
+        return refused(outgrown(code), 0);
     }
     assert!(is_fixnum(width, second), "code {code}: the second result is always a fixnum");
-    Ok((first as i64, second as i64))
+    Answer { refusal: DONE, first: first as i64, second: second as i64, place: 0 }
 }
 
 pub fn is_width(width: u64) -> bool {
@@ -71,17 +77,20 @@ pub fn argument_counts(code: u64) -> RangeInclusive<u64> {
     }
 }
 
-fn in_domain(code: u64, width: i128, args: &[i128]) -> bool {
-    let position = |p: i128| 0 <= p && p < width;
-    let field = |start: i128, end: i128| position(start) && position(end) && start <= end;
-    match code {
-        16..=21 => args[1] != 0,
-        33 => position(args[1]),
-        34 => position(args[1]) && (args[2] == 0 || args[2] == 1),
-        35 | 36 | 41 => field(args[1], args[2]),
-        37 => -width < args[1] && args[1] < width,
-        38 | 39 => 0 <= args[1] && args[1] < width,
-        40 => field(args[1], args[2]) && 0 <= args[3] && args[3] <= args[2] - args[1],
+/// Whether the argument in that place is in its domain, where those before it are in theirs.
+fn in_domain(code: u64, width: u64, args: [i128; 4], place: u64) -> bool {
+    let [_, start, end, _] = args;
+    let x = args[place as usize - 1];
+    let last = i128::from(width) - 1;
+    let is_position = (0..=last).contains(&x);
+    match (code, place) {
+        (16..=21, 2) => x != 0,
+        (33..=36 | 40 | 41, 2) => is_position,
+        (34, 3) => x == 0 || x == 1,
+        (35 | 36 | 40 | 41, 3) => is_position && start <= x,
+        (37, 2) => (-last..=last).contains(&x),
+        (38 | 39, 2) => (0..=last).contains(&x),
+        (40, 4) => 0 <= x && x <= end - start,
         _ => true,
     }
 }

@@ -2,12 +2,14 @@
 use mathlib.Core.Path.{_≡_, sym, ap, _∙_}
 use mathlib.Core.Bool.{true}
 use borrow.Author.Tests.{not-true, not-false}
-use Rattle.fxtable.specs.Domains.{isWidth}
+use Rattle.fxtable.specs.Domains.{isWidth, inDomains}
 use Rattle.fxtable.specs.Table.{isCode}
-use Rattle.fxtable.specs.Calls.{isCount, fixnumAnswer, answer}
+use Rattle.fxtable.specs.Calls.{isCount, allFixnums, fixnumAnswer, answer}
 use Rattle.fxtable.specs.Inner.{Accepted}
 use Rattle.fxtable.proofs.TableLaws.{at-most-four, code-bounds}
+use Rattle.outcomes.specs.Outcome.{refused}
 use Rattle.outcomes.proofs.OutcomeLaws.{passed, failed}
+use Rattle.outcomes.proofs.TestLaws.{none-failed, some-failed, passed-each, failed-each}
 use Rattle.fxtable.proofs.CallLaws.{accepted}
 use borrow.Author.Needs.{needs}
 use Rattle.fixnum.proofs.call.Statement.{statement}
@@ -24,11 +26,12 @@ count-ok : (c : tie.Else3) → isCount (c .before .before .before .before .befor
 count-ok c = sym (c .before .is-count .ensures) ∙ not-false _ (c .if3 .left)
 
 accepts : (c : tie.Else5) → let a = c .before .before .before .before .before .before .before .before .before .before in Accepted (a .args .width) (a .args .code) (a .args .args) (a .args .count)
+unfolding allFixnums inDomains
 accepts c = record {
   width = width-ok (c .before .before .before .before .before .before .before .before);
   arity = count-ok (c .before .before .before .before);
-  fixnums = sym (c .before .before .before .all-fixnums .ensures) ∙ not-false _ (c .before .before .if4 .left);
-  domains = sym (c .before .in-domains .ensures) ∙ not-false _ (c .if5 .left);
+  fixnums = none-failed _ (sym (c .before .before .before .first-not-fixnum .ensures) ∙ c .before .before .if4 .left);
+  domains = none-failed _ (sym (c .before .first-outside .ensures) ∙ c .if5 .left);
 }
 
 returns : tie.Need-returns
@@ -50,8 +53,8 @@ returns-3 c =
     ∙ passed 2 _ (code-ok (c .before .before .before))
     ∙ failed 3 _ (sym (c .before .before .is-count .ensures) ∙ not-true _ (c .before .if3 .taken))))
 
-all-fixnums-requires : tie.Need-all-fixnums-requires
-all-fixnums-requires c κs = (width-ok (c .before .before .before .before), at-most-four _ _ (count-ok c))
+first-not-fixnum-requires : tie.Need-first-not-fixnum-requires
+first-not-fixnum-requires c κs = (width-ok (c .before .before .before .before), at-most-four _ _ (count-ok c))
 
 returns-4 : tie.Need-returns-4
 unfolding fixnumAnswer
@@ -60,10 +63,11 @@ returns-4 c =
     ∙ ap answer (sym (passed 1 _ (width-ok (c .before .before .before .before .before .before .before))
     ∙ passed 2 _ (code-ok (c .before .before .before .before .before))
     ∙ passed 3 _ (count-ok (c .before .before .before))
-    ∙ failed 4 _ (sym (c .before .before .all-fixnums .ensures) ∙ not-true _ (c .before .if4 .taken))))
+    ∙ failed-each _ 4 _ (some-failed _ (λ e. c .before .if4 .taken (c .before .before .first-not-fixnum .ensures ∙ e)))
+    ∙ ap (refused 4) (sym (c .before .before .first-not-fixnum .ensures))))
 
-in-domains-requires : tie.Need-in-domains-requires
-in-domains-requires c κs = (width-ok (c .before .before .before .before .before .before), count-ok (c .before .before))
+first-outside-requires : tie.Need-first-outside-requires
+first-outside-requires c κs = (width-ok (c .before .before .before .before .before .before), count-ok (c .before .before))
 
 returns-5 : tie.Need-returns-5
 unfolding fixnumAnswer
@@ -72,8 +76,9 @@ returns-5 c =
     ∙ ap answer (sym (passed 1 _ (width-ok (c .before .before .before .before .before .before .before .before .before))
     ∙ passed 2 _ (code-ok (c .before .before .before .before .before .before .before))
     ∙ passed 3 _ (count-ok (c .before .before .before .before .before))
-    ∙ passed 4 _ (sym (c .before .before .before .before .all-fixnums .ensures) ∙ not-false _ (c .before .before .before .if4 .left))
-    ∙ failed 5 _ (sym (c .before .before .in-domains .ensures) ∙ not-true _ (c .before .if5 .taken))))
+    ∙ passed-each _ 4 _ (none-failed _ (sym (c .before .before .before .before .first-not-fixnum .ensures) ∙ c .before .before .before .if4 .left))
+    ∙ failed-each _ 5 _ (some-failed _ (λ e. c .before .if5 .taken (c .before .before .first-outside .ensures ∙ e)))
+    ∙ ap (refused 5) (sym (c .before .before .first-outside .ensures))))
 
 operate-requires : tie.Need-operate-requires
 operate-requires c κs = (accepts c, code-bounds _ (code-ok (c .before .before .before .before .before .before)))
@@ -96,10 +101,10 @@ call-spec =
     (λ c κs. search needs)
     (λ c κs. search needs)
     returns-3
-    all-fixnums-requires
+    first-not-fixnum-requires
     (λ c κs. search needs)
     returns-4
-    in-domains-requires
+    first-outside-requires
     (λ c κs. search needs)
     returns-5
     operate-requires

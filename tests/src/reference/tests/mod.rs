@@ -4,21 +4,28 @@ mod agreement;
 mod cases;
 mod exactness;
 mod forms;
+mod places;
 mod programs;
 mod rotations;
 mod samples;
 
-use super::fixnum::fixnum;
+use super::fixnum::{fixnum, Answer};
 use super::integer::Integer;
 use super::limbs;
 use crate::operation::Operation;
 use crate::random::Random;
 
-/// A fixnum call with as many arguments as are given.
+/// The answer to a fixnum call with as many arguments as are given.
+fn answer(width: u64, code: u64, args: &[i64]) -> Answer {
+    let mut all = [0; 4];
+    all[..args.len()].copy_from_slice(args);
+    fixnum(width, code, all, args.len() as u64)
+}
+
+/// Its refusal number and both results.
 fn call(width: u64, code: u64, args: &[i64]) -> (u64, i64, i64) {
-    let mut places = [0; 4];
-    places[..args.len()].copy_from_slice(args);
-    fixnum(width, code, places, args.len() as u64)
+    let Answer { refusal, first, second, .. } = answer(width, code, args);
+    (refusal, first, second)
 }
 
 /// A limb call on small integers, whose result is small.
