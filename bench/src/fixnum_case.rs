@@ -3,7 +3,7 @@
 use std::hint::black_box;
 use std::rc::Rc;
 
-use crate::binding::fixnum;
+use crate::binding::{fixnum, Refusal};
 use crate::fixnum_calls::CALLS;
 use crate::plain_fixnum::Answer;
 use crate::random::Random;
@@ -39,14 +39,15 @@ fn case(random: &mut Random, call: &Call, code: u64) -> Case {
     let inputs: Rc<Vec<[i64; 4]>> = Rc::new((0..INPUTS).map(|_| accepted(random, call)).collect());
     let count = call.arguments.len() as u64;
     for input in inputs.iter() {
-        let same = fixnum(WIDTH, code, count, *input).result() == (call.plain)(WIDTH, input);
+        let ours = fixnum(WIDTH, code, count, *input).result().map_err(Refusal::from);
+        let same = ours == (call.plain)(WIDTH, input);
         require(same, call.name, "plain Rust");
     }
     // The compiler must not know which function is called, nor the width. Both sides read all of the answer.
     let (width, plain) = (black_box(WIDTH), black_box(call.plain));
     let ours = Side::new(&inputs, move |places| {
         let answer = fixnum(width, code, count, *places);
-        answer.refusal as i64 ^ answer.first ^ answer.second
+        answer.refusal as i64 ^ answer.first ^ answer.second ^ answer.place as i64
     });
     let plain = Side::new(&inputs, move |places| match plain(width, places) {
         Ok((first, second)) => first ^ second,
