@@ -43,11 +43,15 @@ fn case(random: &mut Random, call: &Call, code: u64) -> Case {
         let same = ours == (call.plain)(WIDTH, input);
         require(same, call.name, "plain Rust");
     }
-    // The compiler must not know which function is called, nor the width. Both sides read all of the answer.
+    // The compiler must not know which function is called, nor the width. Both sides read the answer as a caller does: the refusal, then
+    // the results or, of a refused call, why.
     let (width, plain) = (black_box(WIDTH), black_box(call.plain));
     let ours = Side::new(&inputs, move |places| {
         let answer = fixnum(width, code, count, *places);
-        answer.refusal as i64 ^ answer.first ^ answer.second ^ answer.place as i64
+        match answer.refusal {
+            0 => answer.first ^ answer.second,
+            refusal => refusal as i64 ^ answer.place as i64,
+        }
     });
     let plain = Side::new(&inputs, move |places| match plain(width, places) {
         Ok((first, second)) => first ^ second,
