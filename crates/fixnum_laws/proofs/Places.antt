@@ -6,11 +6,11 @@ use mathlib.Core.Path.{_≡_, refl, sym, ap, _∙_}
 use mathlib.Core.Bool.{Bool, true, false, not, cond, _&&_, _||_}
 use mathlib.Core.List.{List, [], _∷_}
 use mathlib.Core.Logic.{_⊎_, inl, inr, ⊎-elim}
-use lib.Dec.{eqb, leb}
+use lib.Dec.{eqb}
 use lib.IntN.{ℤ, pos, _-ℤ_}
 use lib.ListN.{length, getD}
 use lib.Seq.{take-length}
-use borrow.Author.Tests.{leb-true, eqb-true, eqb-false, not-true, eq-eqb}
+use borrow.Author.Tests.{eqb-true, eqb-false, not-true, eq-eqb}
 use Rattle.bits.specs.Range.{within}
 use Rattle.bits.specs.Testbit.{fits}
 use Rattle.outcomes.specs.Outcome.{Outcome, refused, done, guard, guardAt}
@@ -20,14 +20,14 @@ use Rattle.outcomes.proofs.TestLaws.{passed-each, First, no-place, some-place, 
 use Rattle.fxtable.specs.declared.answer.Answer.{Answer}
 use Rattle.fxtable.specs.declared.domains.Domain.{Domain}
 use Rattle.fxtable.specs.Domains.{isWidth, arg, accepts, domainAt, domainTestsFrom, domainTests, inDomains}
-use Rattle.fxtable.specs.Operations.{resultsOf}
 use Rattle.fxtable.specs.Table.{rows, noRow, isCode, rowOf}
-use Rattle.fxtable.specs.Calls.{answer, counted, isCount, fixnumTests, allFixnums, checked, outcome, fixnumAnswer}
+use Rattle.fxtable.specs.Calls.{answer, counted, isCount, fixnumTests, allFixnums, outcome, fixnumAnswer}
 use Rattle.fxtable.proofs.CallLaws.{between}
 use Rattle.fxtable.proofs.ArgumentTests.{fixnum-test, domain-test, fixnum-tests-length, domain-tests-length}
 use Rattle.fxtable.proofs.TableLaws.{of-row, of-code, at-most-four}
+use Rattle.fxstages.proofs.DomainLaws.{few-domains}
 use Rattle.fixnum_laws.specs.Lists.{answerOf}
-use Rattle.fixnum_laws.proofs.Stages.{stage, by-ways}
+use Rattle.fixnum_laws.proofs.Stages.{stage, of-outcome, by-ends}
 use Rattle.fixnum_laws.specs.Places.{argument, isFixnum, inDomain, FirstBreach, RefusedFor, withoutPlace, formerFixnums, formerDomainsFrom, formerly, formerAnswer, PlaceStatement}
 
 -- ---- the tests
@@ -53,23 +53,6 @@ module _ (w code : ℕ) (args : List ℤ) (n : ℕ) where
 
   abbrev domains : List Bool
   domains = domainTests (rowOf code .domains) w xs
-
-  -- past its domains, a call is done or refused for overflow
-  of-outcome : (P : Answer → Type 0) → ((r : ℤ × ℤ) → P (answer (done r))) → P (answer (refused (rowOf code .overflow) 0)) → P (answer (outcome w code xs))
-  unfolding outcome checked guard
-  of-outcome P f g = stage P _ (rowOf code .overflow) 0 _ (λ t. f (resultsOf (rowOf code .results) w xs)) (λ t. g)
-
-  record Ends (P : Answer → Type 0) : Type 0 where
-    pub early : (k : ℕ) → 1 ≤ k → k ≤ 3 → P (answer (refused k 0))
-    pub wide : isCount code n ≡ true → allFixnums w xs ≡ false → P (answer (refused 4 (firstFailed fixnums)))
-    pub outside : isCount code n ≡ true → inDomains (rowOf code .domains) w xs ≡ false → P (answer (refused 5 (firstFailed domains)))
-    pub large : isCode code ≡ true → allFixnums w xs ≡ true → inDomains (rowOf code .domains) w xs ≡ true → P (answer (refused (rowOf code .overflow) 0))
-    pub finished : (r : ℤ × ℤ) → P (answer (done r))
-
-  by-ends : (P : Answer → Type 0) → Ends P → P (fixnumAnswer w code args n)
-  by-ends P ends =
-      by-ways w code args n P
-      (record { early = ends .early; wide = ends .wide; outside = ends .outside; past = λ a c f d. of-outcome P (ends .finished) (ends .large c f d) })
 
   -- ---- which argument
 
@@ -101,7 +84,7 @@ module _ (w code : ℕ) (args : List ℤ) (n : ℕ) where
 
   exact : (i : ℕ) → (fixnumAnswer w code args n .place ≡ suc i → For (fixnumAnswer w code args n) (suc i)) × (For (fixnumAnswer w code args n) (suc i) → fixnumAnswer w code args n .place ≡ suc i)
   unfolding RefusedFor answer allFixnums inDomains
-  exact i = by-ends (λ a. (a .place ≡ suc i → For a (suc i)) × (For a (suc i) → a .place ≡ suc i)) (record {
+  exact i = by-ends w code args n (λ a. (a .place ≡ suc i → For a (suc i)) × (For a (suc i) → a .place ≡ suc i)) (record {
     early = λ k l u. unblamed k (λ j e b. omega arith) (λ j e b. omega arith) (answer (refused k 0)) refl refl i;
     wide = λ m h. (
       λ p. inl (refl, breach (isFixnum w xs) fixnums same-fixnum i (place-first fixnums i p)),
@@ -111,34 +94,29 @@ module _ (w code : ℕ) (args : List ℤ) (n : ℕ) where
       λ p. inr (refl, breach (inDomain w code xs) domains same-domain i (place-first domains i p)),
       ⊎-elim (λ f. absurd (omega (arith, f .0))) (λ f. first-place domains i (first (inDomain w code xs) domains same-domain i (f .1))),
     );
-    large = λ c f d.
-        unblamed (rowOf code .overflow) (λ j e. none-broken (isFixnum w xs) fixnums same-fixnum f j) (λ j e. none-broken (inDomain w code xs) domains same-domain d j)
-        (answer (refused (rowOf code .overflow) 0)) refl refl i;
-    finished = λ r. unblamed 0 (λ j e b. omega arith) (λ j e b. omega arith) (answer (done r)) refl refl i;
+    past = (
+      λ c f d. unblamed (rowOf code .overflow) (λ j e. none-broken (isFixnum w xs) fixnums same-fixnum f j) (λ j e. none-broken (inDomain w code xs) domains same-domain d j)
+          (answer (refused (rowOf code .overflow) 0)) refl refl i,
+      λ r. unblamed 0 (λ j e b. omega arith) (λ j e b. omega arith) (answer (done r)) refl refl i,
+    );
   })
 
   -- ---- a counted argument
 
-  -- a code has no more domains than arguments
-  few-domains : length (rowOf code .domains) ≤ rowOf code .least
-  unfolding rows noRow
-  few-domains = leb-true _ _ (of-row (λ r. leb (length (r .domains)) (r .least)) refl refl code)
-
   domains-length : isCount code n ≡ true → length domains ≤ n
   unfolding isCount
-  domains-length m = omega (arith, domain-tests-length w xs (rowOf code .domains), few-domains, between (rowOf code .least) n (rowOf code .most) m .0)
+  domains-length m = omega (arith, domain-tests-length w xs (rowOf code .domains), few-domains code, between (rowOf code .least) n (rowOf code .most) m .0)
 
   within-count : isCount code n ≡ true → (ts : List Bool) → length ts ≤ n → (firstFailed ts ≤ n) × (firstFailed ts ≤ 4)
   within-count m ts l = let p = le-trans (place-within ts) l in (p, le-trans p (at-most-four code n m))
 
   counted-place : (fixnumAnswer w code args n .place ≤ n) × (fixnumAnswer w code args n .place ≤ 4)
   unfolding answer
-  counted-place = by-ends (λ a. (a .place ≤ n) × (a .place ≤ 4)) (record {
+  counted-place = by-ends w code args n (λ a. (a .place ≤ n) × (a .place ≤ 4)) (record {
     early = λ k l u. (zero-le, zero-le);
     wide = λ m h. within-count m fixnums (fixnum-tests-length w args n);
     outside = λ m h. within-count m domains (domains-length m);
-    large = λ c f d. (zero-le, zero-le);
-    finished = λ r. (zero-le, zero-le);
+    past = (λ c f d. (zero-le, zero-le), λ r. (zero-le, zero-le));
   })
 
   -- ---- by refusal
@@ -155,22 +133,20 @@ module _ (w code : ℕ) (args : List ℤ) (n : ℕ) where
 
   place-of-4 : fixnumAnswer w code args n .refusal ≡ 4 → 1 ≤ fixnumAnswer w code args n .place
   unfolding answer allFixnums inDomains
-  place-of-4 = by-ends (λ a. a .refusal ≡ 4 → 1 ≤ a .place) (record {
+  place-of-4 = by-ends w code args n (λ a. a .refusal ≡ 4 → 1 ≤ a .place) (record {
     early = λ k l u e. absurd (omega arith);
     wide = λ m h e. some-place fixnums h;
     outside = λ m h e. some-place domains h;
-    large = λ c f d e. absurd (never-4 e);
-    finished = λ r e. absurd (omega arith);
+    past = (λ c f d e. absurd (never-4 e), λ r e. absurd (omega arith));
   })
 
   place-of-5 : fixnumAnswer w code args n .refusal ≡ 5 → (code ≡ 15 → ⊥) → 1 ≤ fixnumAnswer w code args n .place
   unfolding answer allFixnums inDomains
-  place-of-5 = by-ends (λ a. a .refusal ≡ 5 → (code ≡ 15 → ⊥) → 1 ≤ a .place) (record {
+  place-of-5 = by-ends w code args n (λ a. a .refusal ≡ 5 → (code ≡ 15 → ⊥) → 1 ≤ a .place) (record {
     early = λ k l u e other. absurd (omega arith);
     wide = λ m h e other. some-place fixnums h;
     outside = λ m h e other. some-place domains h;
-    large = λ c f d e other. absurd (other (only-difference c e));
-    finished = λ r e other. absurd (omega arith);
+    past = (λ c f d e other. absurd (other (only-difference c e)), λ r e other. absurd (omega arith));
   })
 
   -- fx- has no domain
@@ -180,22 +156,20 @@ module _ (w code : ℕ) (args : List ℤ) (n : ℕ) where
 
   place-of-size : fixnumAnswer w code args n .refusal ≡ 5 → code ≡ 15 → fixnumAnswer w code args n .place ≡ 0
   unfolding answer
-  place-of-size = by-ends (λ a. a .refusal ≡ 5 → code ≡ 15 → a .place ≡ 0) (record {
+  place-of-size = by-ends w code args n (λ a. a .refusal ≡ 5 → code ≡ 15 → a .place ≡ 0) (record {
     early = λ k l u e q. refl;
     wide = λ m h e q. absurd (omega (arith, e));
     outside = λ m h e q. no-domain q;
-    large = λ c f d e q. refl;
-    finished = λ r e q. refl;
+    past = (λ c f d e q. refl, λ r e q. refl);
   })
 
   place-of-others : (fixnumAnswer w code args n .refusal ≡ 4 → ⊥) → (fixnumAnswer w code args n .refusal ≡ 5 → ⊥) → fixnumAnswer w code args n .place ≡ 0
   unfolding answer
-  place-of-others = by-ends (λ a. (a .refusal ≡ 4 → ⊥) → (a .refusal ≡ 5 → ⊥) → a .place ≡ 0) (record {
+  place-of-others = by-ends w code args n (λ a. (a .refusal ≡ 4 → ⊥) → (a .refusal ≡ 5 → ⊥) → a .place ≡ 0) (record {
     early = λ k l u four five. refl;
     wide = λ m h four five. absurd (four refl);
     outside = λ m h four five. absurd (five refl);
-    large = λ c f d four five. refl;
-    finished = λ r four five. refl;
+    past = (λ c f d four five. refl, λ r four five. refl);
   })
 
   -- ---- all but the place
@@ -247,8 +221,8 @@ places w code args n = record {
 
 -- past its domains, a call is refused for no argument
 outcome-place : (w code : ℕ) (xs : List ℤ) → answer (outcome w code xs) .place ≡ 0
-unfolding outcome checked guard answer
-outcome-place w code xs = stage (λ a. a .place ≡ 0) _ (rowOf code .overflow) 0 _ (λ t. refl) (λ t. refl)
+unfolding answer
+outcome-place w code xs = of-outcome w code xs (λ a. a .place ≡ 0) refl (λ r. refl)
 
 tested-place : (ts : List Bool) (o : Outcome (ℤ × ℤ)) → answer o .place ≡ 0 → answer (guardEach ts 5 o) .place ≡ firstFailed ts
 unfolding guardEach answer

@@ -25,7 +25,7 @@ use Rattle.fxtable.specs.Domains.{isWidth, arg, accepts, domainAt, domainTests,
 use Rattle.fxtable.specs.Table.{rows, noRow, rowOf, signatureOf}
 use Rattle.fxtable.specs.Calls.{counted, isCount}
 use Rattle.fxtable.proofs.CallLaws.{between, width-bounds, arg-counted}
-use Rattle.fxtable.proofs.TableLaws.{of-row}
+use Rattle.fxtable.proofs.TableLaws.{of-row, at-most-four}
 use Rattle.fxtable.proofs.ArgumentTests.{domain-test, domain-tests-length}
 
 -- ---- what every row keeps
@@ -77,9 +77,10 @@ module _ (code : ℕ) where
   unfolding rows noRow domainAt
   first-free = told _ 0 (of-row (λ r. eqb (number (domainAt (r .domains) 0)) 0) refl refl code)
 
-  few : length (rowOf code .domains) ≤ 4
+  -- a code has no more domains than arguments
+  pub few-domains : length (rowOf code .domains) ≤ rowOf code .least
   unfolding rows noRow
-  few = leb-true _ 4 (of-row (λ r. leb (length (r .domains)) 4) refl refl code)
+  few-domains = leb-true _ _ (of-row (λ r. leb (length (r .domains)) (r .least)) refl refl code)
 
   -- a test looks at no argument past the least count
   looks : (reads (domainOf code 1) 1 ≤ rowOf code .least) × (reads (domainOf code 2) 2 ≤ rowOf code .least) × (reads (domainOf code 3) 3 ≤ rowOf code .least)
@@ -155,7 +156,7 @@ module _ (w : ℕ) (xs : List ℤ) (n : ℕ) where
         let r1 = le-trans (r .0) enough in
         let r2 = le-trans (r .1) enough in
         let r3 = le-trans (r .2) enough in
-        spelled w (counted xs n) (rowOf code .domains) (first-free code) (few code)
+        spelled w (counted xs n) (rowOf code .domains) (first-free code) (le-trans (few-domains code) (le-trans enough (at-most-four code n a)))
         ∙ cc (slot (domainOf code 1) 1 (omega arith) (omega arith) r1, slot (domainOf code 2) 2 (omega arith) (omega arith) r2, slot (domainOf code 3) 3 (omega arith) (omega arith) r3)
 
     pub in-domains : inDomains (rowOf code .domains) w (counted xs n) ≡ allHold (lies 1 ∷ lies 2 ∷ lies 3 ∷ [])

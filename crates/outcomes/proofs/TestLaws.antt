@@ -3,10 +3,10 @@ use Prim.Native.Nat.{ℕ, zero, suc, zero-le, _+_, _≤_, _<_}
 use native.Mathlib.Nat.{not-suc-le-zero, le-of-suc-le-suc, zero-lt-suc}
 use native.Mathlib.Omega.{arith}
 use mathlib.Core.Path.{_≡_, refl, sym, ap, _∙_, subst}
-use mathlib.Core.Bool.{Bool, true, false}
+use mathlib.Core.Bool.{Bool, true, false, false≢true}
 use mathlib.Core.List.{List, [], _∷_}
 use mathlib.Core.Logic.{_⊎_, inl, inr, ⊎-elim}
-use lib.Dec.{T, eqb}
+use lib.Dec.{eqb}
 use lib.ListN.{getD, length}
 use borrow.Author.Tests.{eqb-true, eqb-false, ne-eqb}
 use Rattle.outcomes.specs.Outcome.{Outcome, refused}
@@ -65,17 +65,14 @@ unfolding firstFailed
 place-first ts i e =
     ⊎-elim (λ z. absurd (omega (arith, z, e))) (λ f. subst (First ts) (omega (arith, f .1, e)) (f .2)) (found-from 0 ts)
 
-true-false : {A : Type 0} → true ≡ false → A
-true-false e = absurd (subst T e tt)
-
 first-from : (p : ℕ) (ts : List Bool) (i : ℕ) → First ts i → firstFailedFrom (suc p) ts ≡ suc (p + i)
 unfolding firstFailedFrom
-first-from p [] i f = true-false (f .fails)
-first-from p (true ∷ ts) zero f = true-false (f .fails)
+first-from p [] i f = absurd (false≢true (sym (f .fails)))
+first-from p (true ∷ ts) zero f = absurd (false≢true (sym (f .fails)))
 first-from p (false ∷ ts) zero f = omega arith
 first-from p (true ∷ ts) (suc i) f =
     first-from (suc p) ts i (record { fails = f .fails; before = λ j h. f .before (suc j) (omega arith) }) ∙ omega arith
-first-from p (false ∷ ts) (suc i) f = true-false (sym (f .before 0 (zero-lt-suc i)))
+first-from p (false ∷ ts) (suc i) f = absurd (false≢true (f .before 0 (zero-lt-suc i)))
 
 pub first-place : (ts : List Bool) (i : ℕ) → First ts i → firstFailed ts ≡ suc i
 unfolding firstFailed
