@@ -1,13 +1,14 @@
-/* Quebralua: the R6RS fixnum operations at any width from 24 to 62, the R6RS bitwise operations on integers in 32-bit
+/* Quebralua: the R6RS fixnum operations at any width from 24 to 64, the R6RS bitwise operations on integers in 32-bit
    limbs, and the conversions between the two. Link libquebralua.a, which `rt staticlib quebralua` writes.
 
    Every call returns, whatever numbers come in. An answer begins with a refusal number:
 
      0  done
-     1  the width is below 24 or above 62
+     1  the width is below 24 or above 64
      2  the code is not 1 to 41
      3  the argument count is not allowed for the code
-     4  a counted argument, or the number to convert, is not a fixnum at the width
+     4  a counted argument, or the number to convert, is not a fixnum at the width; never at width 64, where each
+        int64_t is one
      5  a divisor, position, field, distance, count or new bit is outside its domain;
         or the exact result of fx- is not a fixnum
      6  the exact result is not a fixnum, or a shift's result would have more than 1,024 limbs

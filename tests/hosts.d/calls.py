@@ -1,7 +1,8 @@
 """Prints the calls to compare at a width, one a line: CODE COUNT A B C D. The only argument is the width.
 
 An operation gets every combination of arguments at its limits, every number of arguments from 0 to 4, and RANDOM_CALLS
-random calls from a fixed seed, with positions, distances and new bits inside their domains.
+random calls from a fixed seed, with positions, distances and new bits inside their domains. A number that is no word is left
+out: at width 64 these are the numbers that are no fixnums.
 """
 import random
 import sys
@@ -97,10 +98,14 @@ def random_arguments(code):
     return (x, y, z)[:3 if code in TERNARY else 1 if code in UNARY else 2]
 
 
+def is_word(x):
+    return -2 ** 63 <= x < 2 ** 63
+
+
 def main():
     random.seed(1)
     for code in range(1, 42):
-        lists = set(edges(code))
+        lists = {arguments for arguments in edges(code) if all(map(is_word, arguments))}
         for count in range(5):
             lists.update(product((0, 1, 2), repeat=count))
         lists.update(random_arguments(code) for _ in range(RANDOM_CALLS))

@@ -8,6 +8,7 @@ use crate::options::Options;
 use crate::outputs::{output, Shape, TOO_SHORT, WITH_ROOM};
 use crate::report::difference;
 use crate::tally::Tally;
+use crate::whole_words;
 use quebralua_reference::call::{FixnumCall, LimbCall};
 use quebralua_reference::random::Random;
 use quebralua_reference::reference::fixnum::{fixnum, Answer};
@@ -19,6 +20,8 @@ const GUARD: usize = 8;
 pub struct Checker {
     pub tally: Tally,
     pub random: Random,
+    /// How many calls of the library were made.
+    pub made: u64,
     edges_every: u64,
     guard: usize,
     trace: bool,
@@ -29,6 +32,7 @@ impl Checker {
         Checker {
             tally: Tally::new(),
             random: Random::new(options.seed),
+            made: 0,
             edges_every: options.edges_every,
             guard: if options.no_guards { 0 } else { GUARD },
             trace: options.trace,
@@ -38,14 +42,19 @@ impl Checker {
     pub fn fixnum(&mut self, call: FixnumCall) -> FixnumAnswer {
         let Answer { refusal, first, second, place } = fixnum(call.width, call.code, call.args, call.count);
         let expected = FixnumAnswer { refusal, first, second, place };
-        if self.trace {
-            println!("{}", call.as_c());
-        }
-        let got = call_fixnum(&call);
+        let got = self.ask(&call);
         if got != expected {
             difference(&call.as_c(), &format!("{expected:?}"), &format!("{got:?}"));
         }
-        self.tally.fixnum(call.code, refusal, place);
+        self.tally.fixnum(&call, refusal, place);
+        got
+    }
+
+    /// The library's answer alone.
+    pub fn ask(&mut self, call: &FixnumCall) -> FixnumAnswer {
+        self.begin(|| call.as_c());
+        let got = call_fixnum(call);
+        whole_words::check(call.width, got.refusal, || call.as_c());
         got
     }
 
@@ -54,14 +63,12 @@ impl Checker {
             Ok(value) => Value { refusal: 0, value },
             Err(refusal) => Value { refusal, value: 0 },
         };
-        if self.trace {
-            println!("{}", call.as_c(None));
-        }
+        self.begin(|| call.as_c(None));
         let got = call_value(call);
         if got != expected {
             difference(&call.as_c(None), &format!("{expected:?}"), &format!("{got:?}"));
         }
-        self.tally.limbs(call.operation, expected.refusal);
+        self.tally.limbs(call, expected.refusal);
         got
     }
 
@@ -73,9 +80,7 @@ impl Checker {
     fn write_expecting(&mut self, call: &LimbCall, result: &Result<Vec<u32>, u64>, shape: Shape) -> Option<Vec<u32>> {
         let length = result.as_ref().map_or(1, |limbs| limbs.len());
         let output = output(shape, length, &mut self.random);
-        if self.trace {
-            println!("{}", call.as_c(Some(&output)));
-        }
+        self.begin(|| call.as_c(Some(&output)));
         let mut expected_buffer = Buffer::new(&output.limbs, self.guard);
         let mut buffer = expected_buffer.clone();
         let expected = match write(result, expected_buffer.inside(), output.first) {
@@ -83,11 +88,12 @@ impl Checker {
             Err(refusal) => Written { refusal, length: 0 },
         };
         let got = call_write(call, buffer.inside(), output.first);
+        whole_words::check(call.width, got.refusal, || call.as_c(Some(&output)));
         if got != expected || buffer != expected_buffer {
             let [expected, got] = [(expected, expected_buffer), (got, buffer)].map(|(w, b)| format!("{w:?} {b}"));
             difference(&call.as_c(Some(&output)), &expected, &got);
         }
-        self.tally.limbs(call.operation, expected.refusal);
+        self.tally.limbs(call, expected.refusal);
         let first = output.first as usize;
         got.result().ok().map(|length| buffer.inside()[first..first + length].to_vec())
     }
@@ -139,7 +145,16 @@ impl Checker {
         self.write(call, shape);
     }
 
-    fn is_chosen(&mut self) -> bool {
+    /// Whether an edge is to be compared, where not all of them are.
+    pub fn is_chosen(&mut self) -> bool {
         self.edges_every == 1 || self.random.one_in(self.edges_every)
+    }
+
+    /// Counts a call that is about to be made, and prints it if that was asked for.
+    fn begin(&mut self, call: impl FnOnce() -> String) {
+        self.made += 1;
+        if self.trace {
+            println!("{}", call());
+        }
     }
 }

@@ -1,9 +1,13 @@
-//! Compares the C library with the second implementation: every edge of the rules, random calls, and lists of calls.
-//! Ends with status 1 at the first difference, and where some operation, refusal or place was never seen.
+//! Compares the C library with the second implementation: every edge of the rules, random calls, and lists of calls. Then
+//! compares the library's answers at each width with those at the greater ones.
+//! Ends with status 1 at the first difference, and where some operation, width, refusal or place was never seen.
 
+mod agreement;
 mod binding;
 mod buffer;
 mod checker;
+mod combinations;
+mod done_widths;
 mod edges;
 mod library;
 mod lists;
@@ -12,6 +16,7 @@ mod outputs;
 mod random_calls;
 mod report;
 mod tally;
+mod whole_words;
 
 use checker::Checker;
 use options::{Options, USAGE};
@@ -33,8 +38,9 @@ fn main() {
     phase(&mut checker, "edges of the conversions", edges::conversion);
     phase(&mut checker, "random calls", |checker| random_calls::run(checker, options.calls));
     phase(&mut checker, "lists of rotate and reverse calls", |checker| lists::run(checker, options.lists));
-    println!("\n{}", checker.tally);
-    let missing = checker.tally.missing();
+    let agreement = phase(&mut checker, "widths that agree", |checker| agreement::run(checker, options.calls / 20));
+    println!("{agreement}\n\n{}", checker.tally);
+    let missing = [checker.tally.missing(), agreement.missing()].concat();
     if !missing.is_empty() {
         println!("NOT SEEN\n{}", missing.join("\n"));
         exit(1);
@@ -43,9 +49,10 @@ fn main() {
 }
 
 /// Runs one part of the comparison and prints how many calls it made and how long it took.
-fn phase(checker: &mut Checker, name: &str, run: impl FnOnce(&mut Checker)) {
-    let (begin, before) = (Instant::now(), checker.tally.total());
-    run(checker);
-    let (calls, time) = (checker.tally.total() - before, begin.elapsed().as_secs_f64());
+fn phase<T>(checker: &mut Checker, name: &str, run: impl FnOnce(&mut Checker) -> T) -> T {
+    let (begin, before) = (Instant::now(), checker.made);
+    let result = run(checker);
+    let (calls, time) = (checker.made - before, begin.elapsed().as_secs_f64());
     println!("{name}: {calls} calls, {time:.1} s");
+    result
 }

@@ -5,7 +5,7 @@ use quebralua_reference::random::clock;
 pub const USAGE: &str = "\
 usage: quebralua-tests [--seed N] [--calls N] [--lists N] [--edges-every N] [--no-guards] [--trace]
   --seed N         the seed of every random choice (default: from the clock); it is printed
-  --calls N        how many random calls (default 2000000)
+  --calls N        how many random calls, and a twentieth as many at every width (default 2000000)
   --lists N        how many random lists of fixnum rotations and reversals, and four times fewer of limbs (default 20000)
   --edges-every N  makes one of N edge calls, chosen at random (default 1: all of them)
   --no-guards      gives each output buffer an allocation of its own, without guard limbs, for a memory checker

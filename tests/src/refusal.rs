@@ -1,7 +1,7 @@
 //! The refusal numbers.
 
 pub const DONE: u64 = 0;
-/// The width is not 24 to 62.
+/// The width is not accepted (`reference::width`).
 pub const WIDTH: u64 = 1;
 /// The code is not 1 to 41.
 pub const CODE: u64 = 2;

@@ -1,7 +1,10 @@
 //! How many calls of each operation were compared, and how they were answered.
 
+use crate::done_widths::DoneWidths;
+use quebralua_reference::call::{FixnumCall, LimbCall};
 use quebralua_reference::fixnum_answers::fixnum_answers;
 use quebralua_reference::operation::{Operation, FIXNUM_NAMES};
+use quebralua_reference::refusal::DONE;
 use std::fmt;
 
 /// The answers of one operation, by refusal number, 0 for done, and by place. A limb call has place 0.
@@ -12,30 +15,34 @@ pub struct Tally {
     fixnum: [Counts; 42],
     /// In the order of `Operation::ALL`.
     limbs: [Counts; Operation::ALL.len()],
+    widths: DoneWidths,
     total: u64,
 }
 
 impl Tally {
     pub fn new() -> Tally {
-        Tally { fixnum: [[[0; 5]; 9]; 42], limbs: [[[0; 5]; 9]; Operation::ALL.len()], total: 0 }
+        let limbs = [[[0; 5]; 9]; Operation::ALL.len()];
+        Tally { fixnum: [[[0; 5]; 9]; 42], limbs, widths: DoneWidths::new(), total: 0 }
     }
 
-    pub fn fixnum(&mut self, code: u64, refusal: u64, place: u64) {
-        let row = if code <= 41 { code as usize } else { 0 };
+    pub fn fixnum(&mut self, call: &FixnumCall, refusal: u64, place: u64) {
+        let row = if call.code <= 41 { call.code as usize } else { 0 };
         self.fixnum[row][refusal as usize][place as usize] += 1;
         self.total += 1;
+        if refusal == DONE {
+            self.widths.fixnum(call);
+        }
     }
 
-    pub fn limbs(&mut self, operation: Operation, refusal: u64) {
-        self.limbs[operation as usize][refusal as usize][0] += 1;
+    pub fn limbs(&mut self, call: &LimbCall, refusal: u64) {
+        self.limbs[call.operation as usize][refusal as usize][0] += 1;
         self.total += 1;
+        if refusal == DONE {
+            self.widths.limbs(call);
+        }
     }
 
-    pub fn total(&self) -> u64 {
-        self.total
-    }
-
-    /// Every operation and possible answer that no compared call has shown.
+    /// Every operation and possible answer, and every width of an operation, that no compared call has shown.
     pub fn missing(&self) -> Vec<String> {
         let mut missing = Vec::new();
         for (name, counts, possible) in self.rows() {
@@ -45,6 +52,7 @@ impl Tally {
                 }
             }
         }
+        missing.extend(self.widths.missing());
         missing
     }
 
@@ -92,6 +100,6 @@ impl fmt::Display for Tally {
             }
             writeln!(f)?;
         }
-        write!(f, "{:28}{:>10}", "all", self.total)
+        write!(f, "{:28}{:>10}  {}", "all", self.total, self.widths)
     }
 }

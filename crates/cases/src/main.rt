@@ -58,7 +58,9 @@ fn main() {
     shift_fixnum(24, 1, 24);
     shift_fixnum(24, -1, 23);
     shift_fixnum(23, 1, 22);
-    shift_fixnum(63, 1, 22);
+    shift_fixnum(65, 1, 22);
+    shift_fixnum(64, 1, 63);
+    shift_fixnum(64, -1, 63);
     let mut one = [7u32];
     let mut two = [7u32, 7];
     shift_limbs(&[1], 32, &mut one);

@@ -1,3 +1,4 @@
 pub mod ConvertLaws
 pub mod RoundTrip
+pub mod Widths
 pub mod Cases

@@ -64,7 +64,7 @@ module _ (f : Outcome ℤ → ℕ) (f-refused : (k : ℕ) → f (refuse k) ≡ k
   stage-done true k o h e = (refl, e)
   stage-done false k o h e = absurd (omega (arith, sym (f-refused k) ∙ e))
 
-number-done : (w : ℕ) (x : List ℕ) → number (toFixnumOutcome w x) .refusal ≡ 0 → toFixnumOutcome w x ≡ done (value x)
+pub number-done : (w : ℕ) (x : List ℕ) → number (toFixnumOutcome w x) .refusal ≡ 0 → toFixnumOutcome w x ≡ done (value x)
 unfolding toFixnumOutcome operand number
 number-done w x e =
     let stage = stage-done (λ o. number o .refusal) (λ k. refl) in
@@ -73,7 +73,7 @@ number-done w x e =
     let c = stage (fits w (value x)) 6 _ (lit< tt) (b .1) in
     passed 1 _ (a .0) ∙ passed 7 _ (b .0) ∙ passed 6 _ (c .0)
 
-limbs-done : (w : ℕ) (n : ℤ) (out : List ℕ) (first : ℕ) → written (toLimbsOutcome w n) out first .refusal ≡ 0 → (isWidth w ≡ true) × (fits w n ≡ true)
+pub limbs-done : (w : ℕ) (n : ℤ) (out : List ℕ) (first : ℕ) → written (toLimbsOutcome w n) out first .refusal ≡ 0 → (isWidth w ≡ true) × (fits w n ≡ true)
 unfolding toLimbsOutcome written stored mapDone fitted refusalOf
 limbs-done w n out first e =
     let stage = stage-done (λ o. written o out first .refusal) (λ k. refl) in

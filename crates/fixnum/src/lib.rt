@@ -1,4 +1,4 @@
-// The R6RS fixnum operations at any width from 24 to 62, by code.
+// The R6RS fixnum operations at any width from 24 to 64, by code.
 ghost use mathlib.Core.Path.{_≡_};
 ghost use Rattle.fxtable.specs.Calls.{fixnumAnswer};
 

@@ -19,7 +19,8 @@ use Rattle.fxtable.specs.Operations.{equal, greater, greaterOrEqual, chain, isZ
 use Rattle.fxtable.specs.Table.{rows, rowOf, isCode}
 use Rattle.fxtable.proofs.TableLaws.{code-bounds, from-to}
 use Rattle.fixnum_laws.proofs.Stages.{stage, by-ways}
-use Rattle.fixnum_laws.proofs.ResultLaws.{Fit, Fixnums, question-fits, largest-fits, smallest-fits, mod-result-fits, mod0-result-fits, sum-carry-fits, difference-carry-fits, product-carry-fits, not-result-fits, all-result-fits, if-result-fits, count-fits, length-fits, first-bit-fits, copy-bit-fits, field-fits, copy-field-fits, rotate-fits, reverse-fits, right-shift-fits}
+use Rattle.fxtable.proofs.CarryLaws.{Fit}
+use Rattle.fixnum_laws.proofs.ResultLaws.{Fixnums, question-fits, largest-fits, smallest-fits, mod-result-fits, mod0-result-fits, sum-carry-fits, difference-carry-fits, product-carry-fits, not-result-fits, all-result-fits, if-result-fits, count-fits, length-fits, first-bit-fits, copy-bit-fits, field-fits, copy-field-fits, rotate-fits, reverse-fits, right-shift-fits}
 
 -- both results of an answer are fixnums; a refusal has zero results
 abbrev Fixed : ℕ → Answer → Type 0
@@ -100,5 +101,5 @@ results-fit w code args count = by-ways w code args count (Fixed w) (record {
   early = λ k l u. zeros w k 0;
   wide = λ m h. zeros w 4 _;
   outside = λ m h. zeros w 5 _;
-  past = λ a c f d. outcome-fits (record { width = a; all = f }) code c d;
+  past = λ a c m f d. outcome-fits (record { width = a; all = f }) code c d;
 })

@@ -8,3 +8,8 @@ pub mod ShortLists
 pub mod Demand3
 pub mod Rotations
 pub mod Places
+pub mod SignBit
+pub mod WidthLaws
+pub mod CopyBitCalls
+pub mod Widths
+pub mod WidthCases

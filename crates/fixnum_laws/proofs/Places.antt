@@ -121,7 +121,7 @@ module _ (w code : ℕ) (args : List ℤ) (n : ℕ) where
 
   -- ---- by refusal
 
-  never-4 : rowOf code .overflow ≡ 4 → ⊥
+  pub never-4 : rowOf code .overflow ≡ 4 → ⊥
   unfolding rows noRow
   never-4 = eqb-false _ 4 (not-true _ (of-row (λ r. not (eqb (r .overflow) 4)) refl refl code))
 

@@ -1,15 +1,13 @@
 -- The results of each operation on fixnums are fixnums, by families of codes; a first result that is tested for its size is left out.
 -- Assumes nothing.
-use Prim.Native.Nat.{ℕ, _+_, _*_, _-_, _≤_, _<_, _^_}
-use native.Mathlib.Nat.{le-suc, le-refl, mul-le-mul}
+use Prim.Native.Nat.{ℕ, _+_, _*_, _-_, _≤_, _<_}
 use native.Mathlib.Omega.{arith}
 use mathlib.Core.Path.{_≡_, _∙_}
 use mathlib.Core.Bool.{Bool, true, false, cond}
 use mathlib.Core.List.{List, [], _∷_}
 use lib.Dec.{ltb}
-use lib.IntN.{ℤ, pos, negsuc, natAbs, _+ℤ_, _-ℤ_, _*ℤ_}
-use lib.Pow.{pow-mono}
-use lib.Signed.{mag, ltZ, natAbs-le}
+use lib.IntN.{ℤ, pos, natAbs, _+ℤ_, _-ℤ_, _*ℤ_}
+use lib.Signed.{ltZ}
 use borrow.Author.Tests.{ltb-true}
 use Rattle.bits.specs.Testbit.{bitLength, fits}
 use Rattle.bits.specs.Logical.{bitwiseNot, bitwiseAll, bitwiseIf}
@@ -18,24 +16,19 @@ use Rattle.bits.specs.Division.{«mod», mod0}
 use Rattle.bits.specs.Shift.{shiftRight}
 use Rattle.bits.specs.Field.{bitField, setField, copyBitField, permuteField, rotateBitField, reverseBitField}
 use Rattle.bits.proofs.LengthLaws.{fits-not}
-use Rattle.bits.proofs.FitsLaws.{zero-fits, small-fits, bitLength-fits, bitCount-fits, firstBitSet-fits, mod-fits, mod0-fits, low-fits, high-fits, if-fits, setField-fits, bitField-fits, right-fits}
-use Rattle.words.proofs.WordLaws.{fits-mag}
-use Rattle.words.proofs.SignedLaws.{natAbs-add, natAbs-sub, natAbs-mul}
+use Rattle.bits.proofs.FitsLaws.{zero-fits, small-fits, bitLength-fits, bitCount-fits, firstBitSet-fits, mod-fits, mod0-fits, low-fits, if-fits, setField-fits, bitField-fits, right-fits}
 use Rattle.bits.specs.Range.{within}
 use Rattle.bits.proofs.RangeLaws.{within-field}
 use Rattle.fxtable.specs.declared.domains.Domain.{Domain}
 use Rattle.fxtable.specs.declared.domains.Domain.the-variants.{Fixnum, Divisor, Position, FieldEnd}
 use Rattle.fxtable.specs.Domains.{isWidth, arg, accepts, domainTestsFrom, domainTests, inDomains}
-use Rattle.fxtable.specs.Operations.{resultsOf, every, one, two, three, four, question, truth, foldFrom, larger, smaller, largest, smallest, partsOf, carry, copyBitAt}
+use Rattle.fxtable.specs.Operations.{resultsOf, every, one, two, three, four, question, truth, foldFrom, larger, smaller, largest, smallest, carry, copyBitAt}
 use Rattle.fxtable.specs.Calls.{fixnumTests, allFixnums}
 use Rattle.bits.proofs.Booleans.{both-left, both-right}
 use Rattle.fxtable.proofs.CallLaws.{width-bounds, arg-fits}
+use Rattle.fxtable.proofs.CarryLaws.{Fit, sum-parts-fit, difference-parts-fit, product-parts-fit}
 use Rattle.fixnum_laws.proofs.Demand3.{all-fits}
 use Rattle.outcomes.specs.Tests.{allHold}
-
--- both results are fixnums
-abbrev pub Fit : ℕ → ℤ × ℤ → Type 0
-Fit w r = (fits w (r .0) ≡ true) × (fits w (r .1) ≡ true)
 
 -- arguments that are fixnums, at a width that is accepted
 pub record Fixnums (w : ℕ) (xs : List ℤ) : Type 0 where
@@ -52,29 +45,6 @@ unfolding foldFrom allFixnums fixnumTests allHold
 fold-fits w g h x [] f e = f
 fold-fits w g h x (y ∷ ys) f e =
     fold-fits w g h (g x y) ys (h x y f (both-left (fits w y) (allFixnums w ys) e)) (both-right (fits w y) (allFixnums w ys) e)
-
--- ---- the high part of a carry
-
-mag-le : (x : ℤ) → mag x ≤ natAbs x
-mag-le (pos n) = le-refl n
-mag-le (negsuc n) = le-suc n
-
--- what is at most b^2 + b, and b more, is below 2 b^2
-room : (b n : ℕ) → 4 ≤ b → n ≤ b * b + b + b → n < b * (2 * b)
-room b n h l = let k : 4 * b ≤ b * b = mul-le-mul h (le-refl b) in omega arith
-
-module _ (b : ℕ) (h : 4 ≤ b) (x y z : ℤ) (p : natAbs x ≤ b) (q : natAbs y ≤ b) (r : natAbs z ≤ b) where
-  square-le : 2 * b ≤ b * b
-  square-le = mul-le-mul (omega arith) (le-refl b)
-
-  sum-le : natAbs ((x +ℤ y) +ℤ z) ≤ b * b + b
-  sum-le = omega (arith, square-le, natAbs-add (x +ℤ y) z, natAbs-add x y)
-
-  difference-le : natAbs ((x -ℤ y) -ℤ z) ≤ b * b + b
-  difference-le = omega (arith, square-le, natAbs-sub (x -ℤ y) z, natAbs-sub x y)
-
-  product-le : natAbs ((x *ℤ y) +ℤ z) ≤ b * b + b
-  product-le = omega (arith, natAbs-add (x *ℤ y) z, natAbs-mul x y, mul-le-mul p q)
 
 module _ {w : ℕ} {xs : List ℤ} (g : Fixnums w xs) where
   wide : 24 ≤ w
@@ -117,35 +87,17 @@ module _ {w : ℕ} {xs : List ℤ} (g : Fixnums w xs) where
 
   -- ---- 22 to 24
 
-  half : ℕ
-  half = 2 ^ (w - 1)
-
-  large : 4 ≤ half
-  unfolding half
-  large = pow-mono {i = 2} (omega (arith, wide))
-
-  absolute : (i : ℕ) → natAbs (arg xs i) ≤ half
-  unfolding half
-  absolute i = natAbs-le (arg xs i) (fits-mag w (arg xs i) (at i))
-
-  carry-fits : (exact : ℤ → ℤ → ℤ → ℤ)
-      → ((x y z : ℤ) → natAbs x ≤ half → natAbs y ≤ half → natAbs z ≤ half → natAbs (exact x y z) ≤ half * half + half) → Fit w (resultsOf (carry exact) w xs)
-  unfolding resultsOf partsOf half
-  carry-fits exact le =
-      let s = exact (arg xs 0) (arg xs 1) (arg xs 2) in
-      let l : natAbs s ≤ half * half + half = le (arg xs 0) (arg xs 1) (arg xs 2) (absolute 0) (absolute 1) (absolute 2) in (
-        low-fits w s positive,
-        high-fits w s positive (room half (mag (s +ℤ pos half)) large (omega (arith, mag-le (s +ℤ pos half), natAbs-add s (pos half)))),
-      )
-
   pub sum-carry-fits : Fit w (resultsOf (carry (λ x y z. (x +ℤ y) +ℤ z)) w xs)
-  sum-carry-fits = carry-fits (λ x y z. (x +ℤ y) +ℤ z) (sum-le half large)
+  unfolding resultsOf
+  sum-carry-fits = sum-parts-fit w (g .width) (arg xs 0) (arg xs 1) (arg xs 2) (at 0) (at 1) (at 2)
 
   pub difference-carry-fits : Fit w (resultsOf (carry (λ x y z. (x -ℤ y) -ℤ z)) w xs)
-  difference-carry-fits = carry-fits (λ x y z. (x -ℤ y) -ℤ z) (difference-le half large)
+  unfolding resultsOf
+  difference-carry-fits = difference-parts-fit w (g .width) (arg xs 0) (arg xs 1) (arg xs 2) (at 0) (at 1) (at 2)
 
   pub product-carry-fits : Fit w (resultsOf (carry (λ x y z. (x *ℤ y) +ℤ z)) w xs)
-  product-carry-fits = carry-fits (λ x y z. (x *ℤ y) +ℤ z) (product-le half large)
+  unfolding resultsOf
+  product-carry-fits = product-parts-fit w (g .width) (arg xs 0) (arg xs 1) (arg xs 2) (at 0) (at 1) (at 2)
 
   -- ---- 25 to 29
 

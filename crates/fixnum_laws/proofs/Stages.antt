@@ -37,14 +37,14 @@ module _ (w code : ℕ) (args : List ℤ) (n : ℕ) where
     pub past : Past
 
   pub by-ways : (P : Answer → Type 0)
-      → Ways P (isWidth w ≡ true → isCode code ≡ true → allFixnums w xs ≡ true → inDomains (rowOf code .domains) w xs ≡ true → P (answer (outcome w code xs)))
+      → Ways P (isWidth w ≡ true → isCode code ≡ true → isCount code n ≡ true → allFixnums w xs ≡ true → inDomains (rowOf code .domains) w xs ≡ true → P (answer (outcome w code xs)))
       → P (fixnumAnswer w code args n)
   unfolding fixnumAnswer guard guardEach allFixnums inDomains
   by-ways P ways =
       stage P (isWidth w) 1 0 _
       (λ a. stage P (isCode code) 2 0 _
       (λ c. stage P (isCount code n) 3 0 _
-      (λ m. stage P (allFixnums w xs) 4 _ _ (λ f. stage P (inDomains (rowOf code .domains) w xs) 5 _ _ (ways .past a c f) (ways .outside m)) (ways .wide m))
+      (λ m. stage P (allFixnums w xs) 4 _ _ (λ f. stage P (inDomains (rowOf code .domains) w xs) 5 _ _ (ways .past a c m f) (ways .outside m)) (ways .wide m))
       (λ z. ways .early 3 (omega arith) (omega arith))) (λ z. ways .early 2 (omega arith) (omega arith))) (λ z. ways .early 1 (omega arith) (omega arith))
 
   -- the same, with the overflow and the results apart
@@ -53,4 +53,4 @@ module _ (w code : ℕ) (args : List ℤ) (n : ℕ) where
       → P (fixnumAnswer w code args n)
   by-ends P ways =
       by-ways P
-      (record { early = ways .early; wide = ways .wide; outside = ways .outside; past = λ a c f d. of-outcome w code xs P (ways .past .0 c f d) (ways .past .1) })
+      (record { early = ways .early; wide = ways .wide; outside = ways .outside; past = λ a c m f d. of-outcome w code xs P (ways .past .0 c f d) (ways .past .1) })

@@ -1,3 +1,4 @@
 pub mod Lists
 pub mod Rotations
 pub mod Places
+pub mod Widths

@@ -14,16 +14,18 @@ use Rattle.fxtable.proofs.CallLaws.{between}
 use Rattle.fxtable.proofs.MeaningLaws.{by-row}
 use Rattle.fxtable.proofs.TableLaws.{from-to}
 
--- one argument, and so fx-; fx- with more, and so two
+-- one argument, and so fx-; more, and so two
 pub only-minus : (n code : ℕ) → (13 ≤ code) × (code ≤ 15) → isCount code n ≡ true → n ≡ 1 → code ≡ 15
 unfolding isCount rows rowOf
 only-minus n code h =
     from-to (λ c. isCount c n ≡ true → n ≡ 1 → c ≡ 15) 13 3
     (λ a e. let b = between 2 n 2 a in absurd (omega arith), (λ a e. let b = between 2 n 2 a in absurd (omega arith), (λ a e. refl, tt))) code (h .0) (omega arith)
 
-pub two-counted : (n : ℕ) → isCount 15 n ≡ true → (n ≡ 1 → ⊥) → n ≡ 2
+pub two-counted : (n code : ℕ) → (13 ≤ code) × (code ≤ 15) → isCount code n ≡ true → (n ≡ 1 → ⊥) → n ≡ 2
 unfolding isCount rows rowOf
-two-counted n a k = let b = between 1 n 2 a in omega arith
+two-counted n code h =
+    from-to (λ c. isCount c n ≡ true → (n ≡ 1 → ⊥) → n ≡ 2) 13 3
+    (λ a k. let b = between 2 n 2 a in omega arith, (λ a k. let b = between 2 n 2 a in omega arith, (λ a k. let b = between 1 n 2 a in omega arith, tt))) code (h .0) (omega arith)
 
 minus-one : (xs : List ℤ) → minus (counted xs 1) ≡ negℤ (arg xs 0)
 unfolding minus counted arg

@@ -1,16 +1,37 @@
 // Codes 13 to 15: sum, product, difference.
 ghost use mathlib.Core.Path.{_≡_};
-ghost use Prim.Native.Nat.{_≤_};
+ghost use mathlib.Core.Bool.{true};
+ghost use Prim.Native.Nat.{_≤_, _<_};
+ghost use lib.IntN.{ℤ, pos};
+ghost use Rattle.fxtable.specs.Domains.{isWidth};
 ghost use Rattle.fxtable.specs.Calls.{answer, counted, outcome};
+ghost use Rattle.fxtable.specs.Calls as calls;
 ghost use Rattle.fxtable.specs.Inner.{Accepted};
+ghost use Rattle.fxarith.specs.Held.{Held};
 use fxstages::overflow::checked;
 use fxstages::overflow::exact;
 use fxtable::answer::Answer;
-use widewords::wide::add_word;
+use fxtable::answer::done;
+use fxtable::answer::refuse;
+use widewords::double::Double;
+use widewords::parts::high_part;
+use widewords::parts::low_part;
+use widewords::sums::difference;
+use widewords::sums::sum;
 use widewords::wide::product;
-use widewords::wide::widen;
 use words::sign::absolute;
 use words::sign::is_negative;
+
+// A sum or a difference is a fixnum exactly where nothing is carried.
+fn without_carry(overflow: u64, width: u64, s: Double) -> Answer
+    requires { ⌜ (isWidth width ≡ true) × (0 < overflow) ⌝ }
+    ensures { λ r. ⌜ ((x : ℤ) → Held width s x → r ≡ answer (calls.checked overflow width (x, pos 0))) ⌝ }
+{
+    if high_part(width, s) != 0 {
+        return refuse(overflow, 0);
+    }
+    done(low_part(width, s), 0)
+}
 
 // fx+ fx* fx-: only fx- takes one argument.
 pub fn arithmetic(width: u64, code: u64, args: [i64; 4], count: u64) -> Answer
@@ -24,8 +45,8 @@ pub fn arithmetic(width: u64, code: u64, args: [i64; 4], count: u64) -> Answer
     }
     let y = args[1];
     match code {
-        13 => exact(6, width, add_word(widen(x), false, y)),
+        13 => without_carry(6, width, sum(x, y, 0)),
         14 => exact(6, width, product(x, y)),
-        _ => exact(5, width, add_word(widen(x), true, y)),
+        _ => without_carry(5, width, difference(x, y, 0)),
     }
 }

@@ -17,7 +17,7 @@ use output::put;
 use output::put_natural;
 use words::sign::power;
 
-// `the width is 63, and must be from 24 to 62`
+// `the width is 65, and must be from 24 to 64`
 fn put_limit(what: &[u8], n: u64, first: u64, last: u64, out: &mut [u8], at: usize) -> usize {
     let at = put(b"the ", out, at);
     let at = put(what, out, at);

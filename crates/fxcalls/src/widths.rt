@@ -1,5 +1,5 @@
 // `widths`: one fixnum call at every width, and which widths agree.
-ghost use Prim.Native.Nat.{_<_, _≤_};
+ghost use Prim.Native.Nat.{_≤_};
 use super::explain::put_reason;
 use super::fx::put_results;
 use super::request::Request;
@@ -28,10 +28,9 @@ fn agree(request: Request, v: u64, w: u64) -> bool {
     a.refusal == b.refusal && a.place == b.place && a.first == b.first && a.second == b.second
 }
 
-// The first width from v on that has the answer of a width, or the first that has not. 63 where there is none.
+// The first width from v on that has the answer of a width, or the first that has not; past the last where there is none.
 fn next(request: Request, width: u64, v: u64, has: bool) -> u64
-    requires { ⌜ v ≤ 63 ⌝ }
-    ensures { λ r. ⌜ (v ≤ r) × (r ≤ 63) ⌝ }
+    ensures { λ r. ⌜ v ≤ r ⌝ }
 {
     let mut w = v;
     while w < PAST {
@@ -44,9 +43,7 @@ fn next(request: Request, width: u64, v: u64, has: bool) -> u64
 }
 
 // All widths from a width on that have its answer: `24 to 30, 32`.
-fn put_widths(request: Request, width: u64, out: &mut [u8], at: usize) -> usize
-    requires { ⌜ width ≤ 62 ⌝ }
-{
+fn put_widths(request: Request, width: u64, out: &mut [u8], at: usize) -> usize {
     let mut filled = at;
     let mut v = width;
     while v < PAST {
@@ -68,9 +65,7 @@ fn put_answer(request: Request, width: u64, out: &mut [u8], at: usize) -> usize 
 }
 
 // The line of a width, where no narrower one has its answer.
-fn put_line(request: Request, width: u64, out: &mut [u8], at: usize) -> usize
-    requires { ⌜ width ≤ 62 ⌝ }
-{
+fn put_line(request: Request, width: u64, out: &mut [u8], at: usize) -> usize {
     if next(request, width, FIRST, true) < width {
         return at;
     }

@@ -1,6 +1,6 @@
 -- Cases of every row of the table, and document 01's cases for programs, computed from the definitions. The answers are those of
 -- document 01 and of R6RS. Assumes nothing.
-use Prim.Native.Nat.{ℕ, zero, suc, _-_}
+use Prim.Native.Nat.{ℕ, zero, suc, _+_, _-_, _/_}
 use mathlib.Core.Path.{_≡_, refl}
 use mathlib.Core.Bool.{Bool, true, false, not, _&&_, _||_, xor, Bool·beq}
 use mathlib.Core.List.{List, [], _∷_}
@@ -221,51 +221,37 @@ rowLimits w =
     ∷ outside w 39 (pos 0 ∷ pos w ∷ []) 2
     ∷ []
 
--- both sides of a width's range: an argument, and an exact result
-abbrev rowRanges : List Bool
-rowRanges =
-    refusal 24 16 (neg 8388608 ∷ neg 1 ∷ []) 6
-    ∷ refusal 24 17 (neg 8388608 ∷ neg 1 ∷ []) 0
-    ∷ refusal 24 18 (neg 8388608 ∷ neg 1 ∷ []) 6
-    ∷ refusal 24 19 (neg 8388608 ∷ neg 1 ∷ []) 6
-    ∷ refusal 24 20 (neg 8388608 ∷ neg 1 ∷ []) 0
-    ∷ refusal 24 21 (neg 8388608 ∷ neg 1 ∷ []) 6
-    ∷ refusal 24 15 (neg 8388608 ∷ []) 5
-    ∷ refusal 24 15 (neg 8388608 ∷ pos 1 ∷ []) 5
-    ∷ refusal 24 13 (pos 8388607 ∷ pos 1 ∷ []) 6
-    ∷ refusal 24 14 (pos 4194304 ∷ pos 2 ∷ []) 6
-    ∷ refusal 24 13 (pos 8388607 ∷ pos 0 ∷ []) 0
-    ∷ refusal 24 14 (neg 4194304 ∷ pos 2 ∷ []) 0
-    ∷ refusal 24 15 (neg 8388608 ∷ neg 1 ∷ []) 0
-    ∷ refusal 24 37 (pos 1 ∷ pos 23 ∷ []) 6
-    ∷ refusal 24 38 (pos 1 ∷ pos 23 ∷ []) 6
-    ∷ refusal 24 37 (neg 1 ∷ pos 23 ∷ []) 0
-    ∷ refusal 24 38 (pos 1 ∷ pos 22 ∷ []) 0
-    ∷ refusedAt 24 25 (pos 8388608 ∷ []) 4 1
-    ∷ refusedAt 24 25 (neg 8388609 ∷ []) 4 1
-    ∷ refusal 24 25 (pos 8388607 ∷ []) 0
-    ∷ refusal 24 25 (neg 8388608 ∷ []) 0
-    ∷ refusal 62 16 (neg 2305843009213693952 ∷ neg 1 ∷ []) 6
-    ∷ refusal 62 17 (neg 2305843009213693952 ∷ neg 1 ∷ []) 0
-    ∷ refusal 62 18 (neg 2305843009213693952 ∷ neg 1 ∷ []) 6
-    ∷ refusal 62 19 (neg 2305843009213693952 ∷ neg 1 ∷ []) 6
-    ∷ refusal 62 20 (neg 2305843009213693952 ∷ neg 1 ∷ []) 0
-    ∷ refusal 62 21 (neg 2305843009213693952 ∷ neg 1 ∷ []) 6
-    ∷ refusal 62 15 (neg 2305843009213693952 ∷ []) 5
-    ∷ refusal 62 15 (neg 2305843009213693952 ∷ pos 1 ∷ []) 5
-    ∷ refusal 62 13 (pos 2305843009213693951 ∷ pos 1 ∷ []) 6
-    ∷ refusal 62 14 (pos 1152921504606846976 ∷ pos 2 ∷ []) 6
-    ∷ refusal 62 13 (pos 2305843009213693951 ∷ pos 0 ∷ []) 0
-    ∷ refusal 62 14 (neg 1152921504606846976 ∷ pos 2 ∷ []) 0
-    ∷ refusal 62 15 (neg 2305843009213693952 ∷ neg 1 ∷ []) 0
-    ∷ refusal 62 37 (pos 1 ∷ pos 61 ∷ []) 6
-    ∷ refusal 62 38 (pos 1 ∷ pos 61 ∷ []) 6
-    ∷ refusal 62 37 (neg 1 ∷ pos 61 ∷ []) 0
-    ∷ refusal 62 38 (pos 1 ∷ pos 60 ∷ []) 0
-    ∷ refusedAt 62 25 (pos 2305843009213693952 ∷ []) 4 1
-    ∷ refusedAt 62 25 (neg 2305843009213693953 ∷ []) 4 1
-    ∷ refusal 62 25 (pos 2305843009213693951 ∷ []) 0
-    ∷ refusal 62 25 (neg 2305843009213693952 ∷ []) 0
+-- both sides of the range of a width w, from -h to h - 1: an argument, and an exact result
+abbrev rowRanges : ℕ → ℕ → List Bool
+rowRanges w h =
+    refusal w 16 (neg h ∷ neg 1 ∷ []) 6
+    ∷ refusal w 17 (neg h ∷ neg 1 ∷ []) 0
+    ∷ refusal w 18 (neg h ∷ neg 1 ∷ []) 6
+    ∷ refusal w 19 (neg h ∷ neg 1 ∷ []) 6
+    ∷ refusal w 20 (neg h ∷ neg 1 ∷ []) 0
+    ∷ refusal w 21 (neg h ∷ neg 1 ∷ []) 6
+    ∷ refusal w 15 (neg h ∷ []) 5
+    ∷ refusal w 15 (neg h ∷ pos 1 ∷ []) 5
+    ∷ refusal w 13 (pos (h - 1) ∷ pos 1 ∷ []) 6
+    ∷ refusal w 14 (pos (h / 2) ∷ pos 2 ∷ []) 6
+    ∷ refusal w 13 (pos (h - 1) ∷ pos 0 ∷ []) 0
+    ∷ refusal w 14 (neg (h / 2) ∷ pos 2 ∷ []) 0
+    ∷ refusal w 15 (neg h ∷ neg 1 ∷ []) 0
+    ∷ refusal w 37 (pos 1 ∷ pos (w - 1) ∷ []) 6
+    ∷ refusal w 38 (pos 1 ∷ pos (w - 1) ∷ []) 6
+    ∷ refusal w 37 (neg 1 ∷ pos (w - 1) ∷ []) 0
+    ∷ refusal w 38 (pos 1 ∷ pos (w - 2) ∷ []) 0
+    ∷ refusedAt w 25 (pos h ∷ []) 4 1
+    ∷ refusedAt w 25 (neg (h + 1) ∷ []) 4 1
+    ∷ refusal w 25 (pos (h - 1) ∷ []) 0
+    ∷ refusal w 25 (neg h ∷ []) 0
+    -- the exact sums 2^w - h, -3 h, 2^w, 3 h - 2, (h - 1) h and h h + h - 1 in two parts
+    ∷ gives w 22 (pos (h - 1) ∷ pos 1 ∷ pos 0 ∷ []) 3 (done (neg h, pos 1))
+    ∷ gives w 22 (neg h ∷ neg h ∷ neg h ∷ []) 3 (done (neg h, neg 1))
+    ∷ gives w 23 (pos 0 ∷ neg h ∷ neg h ∷ []) 3 (done (pos 0, pos 1))
+    ∷ gives w 23 (pos (h - 2) ∷ neg h ∷ neg h ∷ []) 3 (done (pos (h - 2), pos 1))
+    ∷ gives w 24 (pos (h - 1) ∷ pos (h - 1) ∷ pos (h - 1) ∷ []) 3 (done (neg h, pos (h / 2)))
+    ∷ gives w 24 (neg h ∷ neg h ∷ pos (h - 1) ∷ []) 3 (done (pos (h - 1), pos (h / 2)))
     ∷ []
 
 -- document 01's cases for programs, and the order of the refusals
@@ -276,7 +262,7 @@ programs =
     ∷ gives 24 37 (pos 1 ∷ pos 24 ∷ []) 2 (refused 5 2)
     ∷ gives 24 37 (neg 1 ∷ pos 23 ∷ []) 2 (done (neg 8388608, pos 0))
     ∷ gives 23 25 (pos 0 ∷ []) 1 (refuse 1)
-    ∷ gives 63 25 (pos 0 ∷ []) 1 (refuse 1)
+    ∷ gives 65 25 (pos 0 ∷ []) 1 (refuse 1)
     -- 1 before 2, 2 before 3, 3 before 4, 4 before 5, 5 before 6
     ∷ gives 23 0 (pos 0 ∷ []) 1 (refuse 1)
     ∷ gives 24 0 (pos 0 ∷ []) 5 (refuse 2)
@@ -311,11 +297,16 @@ places =
     ∷ gives 24 34 (pos 1 ∷ pos 24 ∷ pos 2 ∷ []) 3 (refused 5 2)
     ∷ []
 
-pub cases-rows : (all rowAnswers ≡ true) × (all rowCounts ≡ true) × (all rowResults ≡ true) × (all (rowLimits 24) ≡ true) × (all (rowLimits 62) ≡ true) × (all rowRanges ≡ true) × (all programs ≡ true) × (all places ≡ true)
+-- the widths at which limits are tried: the narrowest, the widest, and the two beside it
+abbrev limits : ℕ → ℕ → Bool
+limits w h = all (rowLimits w) && all (rowRanges w h)
+
+pub cases-rows : (all rowAnswers ≡ true) × (all rowCounts ≡ true) × (all rowResults ≡ true) × (all programs ≡ true) × (all places ≡ true)
+    × (limits 24 8388608 ≡ true) × (limits 62 2305843009213693952 ≡ true) × (limits 63 4611686018427387904 ≡ true) × (limits 64 9223372036854775808 ≡ true)
 unfolding xor odd testbit halvings bitLength consBit ofBits fits isNegative fill bitwise bitwiseNot bitwiseAnd bitwiseIor bitwiseXor bitwiseIf bitwiseFrom bitwiseAll bitwiseAnds bitwiseIors bitwiseXors
     onesBelow ones bitCount firstTrue firstBitSet floorDiv shiftLeft shiftRight arithmeticShift div modℕ «mod» div0 mod0
     inField rotateIndex reverseIndex setField permuteField bitField copyBit copyBitField rotateBitField reverseBitField
     guard guardAt allHold firstFailedFrom firstFailed guardEach answer leastWidth largestWidth isWidth arg within accepts domainTestsFrom domainTests resultsOf hasTwo partsOf
     truth equal greater greaterOrEqual chainFrom chain isZero isPositive isBelowZero isOdd isEven foldFrom larger smaller largest smallest minus
     rows noRow isCode rowOf counted isCount fixnumTests checked outcome fixnumAnswer
-cases-rows = (refl, refl, refl, refl, refl, refl, refl, refl)
+cases-rows = (refl, refl, refl, refl, refl, refl, refl, refl, refl)

@@ -3,4 +3,5 @@ pub mod CallLaws
 pub mod TableLaws
 pub mod ArgumentTests
 pub mod MeaningLaws
+pub mod CarryLaws
 pub mod Cases

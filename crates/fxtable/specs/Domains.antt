@@ -1,5 +1,5 @@
 -- Where the arguments of a call must lie: 01's width, and its domains, one test for each argument, from left to right.
---   isWidth w               ==  24 <= w <= 62
+--   isWidth w               ==  24 <= w <= 64
 --   arg xs i                ==  argument i of xs, from 0
 --   accepts d w xs x        ==  whether x, an argument of xs at width w, lies in the domain d
 --   domainAt ds i           ==  the domain of argument i: any fixnum where ds is shorter
@@ -22,7 +22,7 @@ unfoldable pub leastWidth : ℕ
 leastWidth = 24
 
 unfoldable pub largestWidth : ℕ
-largestWidth = 62
+largestWidth = 64
 
 unfoldable pub isWidth : ℕ → Bool
 isWidth w = leb leastWidth w && leb w largestWidth

@@ -7,7 +7,7 @@ use words::sign;
 
 pub const LEAST_WIDTH: u64 = 24;
 
-pub const LARGEST_WIDTH: u64 = 62;
+pub const LARGEST_WIDTH: u64 = 64;
 
 pub fn is_width(width: u64) -> bool
     ensures { λ r. ⌜ r ≡ isWidth width ⌝ }

@@ -95,7 +95,7 @@ fn put_found(line: &[u8], i: usize, out: &mut [u8], at: usize) -> usize {
     put(b"', and ", out, at)
 }
 
-// `ql: word 3 is 'x', and a width from 24 to 62 was expected`
+// `ql: word 3 is 'x', and a width from 24 to 64 was expected`
 pub fn put_trouble(line: &[u8], i: usize, expected: Expected, out: &mut [u8], at: usize) -> usize {
     let at = put(b"ql: word ", out, at);
     let at = put_natural(i as u64, out, at);

@@ -156,8 +156,9 @@ fn put_widths_help(out: &mut [u8]) -> usize {
     put(
         b"ql widths OP ARG..
 One fixnum operation at every width that is accepted, as R6RS says it and this project settles what R6RS leaves open. A line has
-the widths with one answer. The exit status is 0 where all widths agree. Whether a Scheme system does what R6RS says is another question:
-docs/HOSTS.md has what some of them do.
+the widths with one answer. A call that is done at a width is done at every larger one and answers the same there, but for fx+/carry,
+fx-/carry and fx*/carry, and for fxcopy-bit where it changes the sign bit of the smaller width. The exit status is 0 where all widths
+agree. Whether a Scheme system does what R6RS says is another question: docs/HOSTS.md has what some of them do.
 ",
         out,
         0,

@@ -1,5 +1,5 @@
 pub mod Columns
 pub mod WideLaws
+pub mod DoubleLaws
 pub mod PartLaws
-pub mod PartBounds
 pub mod DivisionWords

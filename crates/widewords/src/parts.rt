@@ -1,12 +1,12 @@
-// The two parts of an integer s of two words at a width: s mod0 2^width and s div0 2^width.
+// The two parts of an integer s at a width, s mod0 2^width and s div0 2^width, from the words of s that wrap.
 ghost use mathlib.Core.Path.{_≡_};
-ghost use Prim.Native.Nat.{_+_, _≤_, _<_, _/_, _%_, _^_};
-ghost use lib.IntN.{pos, natAbs};
+ghost use Prim.Native.Nat.{_+_, _≤_, _/_, _%_, _^_};
+ghost use lib.IntN.{pos};
 ghost use Rattle.bits.specs.Division.{div0, mod0};
-ghost use Rattle.widewords.specs.Wide.{wideValue};
-use super::wide::Wide;
-use words::sign::absolute_fits;
-use words::sign::from_absolute;
+ghost use Rattle.widewords.specs.Double.{doubleWord};
+use super::double::Double;
+use super::double::add;
+use words::sign::from_magnitude;
 use words::sign::power;
 
 // 2^width - 1. Here and below no branch asks for width 64, where 2^width is no word.
@@ -18,43 +18,44 @@ fn ones(width: u64) -> u64
     half + (half - 1)
 }
 
-fn remainder(width: u64, s: Wide) -> u64
+// The low bits of n, as many as the width has, of which the highest is the sign.
+fn signed(width: u64, n: u64) -> i64
     requires { ⌜ (1 ≤ width) × (width ≤ 64) ⌝ }
-    ensures { λ r. ⌜ r ≡ natAbs (wideValue s) % 2 ^ width ⌝ }
+    ensures { λ r. ⌜ r ≡ mod0 (pos n) (pos (2 ^ width)) ⌝ }
 {
-    s.low & ones(width)
+    let ones = ones(width);
+    let bits = n & ones;
+    if bits <= ones / 2 {
+        from_magnitude(false, bits)
+    } else {
+        from_magnitude(true, ones - bits)
+    }
 }
 
-fn quotient(width: u64, s: Wide) -> u64
+// The word of bits from the width on.
+fn quotient(width: u64, s: Double) -> u64
     requires { ⌜ (1 ≤ width) × (width ≤ 64) ⌝ }
-    requires { ⌜ natAbs (wideValue s) + 2 ^ width < 2 ^ (63 + width) ⌝ }
-    ensures { λ r. ⌜ r ≡ natAbs (wideValue s) / 2 ^ width ⌝ }
+    ensures { λ r. ⌜ r ≡ doubleWord s / 2 ^ width % 2 ^ 64 ⌝ }
 {
     (s.high << (64 - width)) + (s.low / 2 >> (width - 1))
 }
 
-// The remainder r of |s| with the sign of s, if that is a fixnum at the width, else 2^width - r with the other sign. Both are made
-// before one is chosen, as in `wide::add`.
-pub fn low_part(width: u64, s: Wide) -> i64
+// The low word, which at width 64 is the part itself.
+pub fn low_part(width: u64, s: Double) -> i64
     requires { ⌜ (1 ≤ width) × (width ≤ 64) ⌝ }
-    ensures { λ r. ⌜ r ≡ mod0 (wideValue s) (pos (2 ^ width)) ⌝ }
+    ensures { λ r. ⌜ r ≡ mod0 (pos (doubleWord s)) (pos (2 ^ width)) ⌝ }
 {
-    let r = remainder(width, s);
-    let rest = ones(width) - r;
-    if absolute_fits(width, s.negative, r) {
-        from_absolute(s.negative, r)
-    } else {
-        from_absolute(!s.negative, rest + 1)
-    }
+    signed(width, s.low)
 }
 
-// The quotient of |s| with the sign of s, and one more where the low part has the other sign.
-pub fn high_part(width: u64, s: Wide) -> i64
+// The quotient after half of 2^width is added, so that it is rounded to the nearest; as a word, which is all of it where it fits one.
+pub fn high_part(width: u64, s: Double) -> i64
     requires { ⌜ (1 ≤ width) × (width ≤ 64) ⌝ }
-    requires { ⌜ natAbs (wideValue s) + 2 ^ width < 2 ^ (63 + width) ⌝ }
-    ensures { λ r. ⌜ r ≡ div0 (wideValue s) (pos (2 ^ width)) ⌝ }
+    ensures { λ r. ⌜ r ≡ mod0 (div0 (pos (doubleWord s)) (pos (2 ^ width))) (pos (2 ^ 64)) ⌝ }
 {
-    let q = quotient(width, s);
-    let near = absolute_fits(width, s.negative, remainder(width, s));
-    from_absolute(s.negative, q + !near as u64)
+    let half = Double {
+        high: 0,
+        low: power(width - 1),
+    };
+    signed(64, quotient(width, add(s, half)))
 }

@@ -3,7 +3,7 @@ use Prim.Native.Nat.{ℕ, zero, suc, _+_, _*_, _-_, _≤_}
 use native.Mathlib.Nat.{le-refl}
 use native.Mathlib.Omega.{arith}
 use mathlib.Core.Path.{_≡_, refl, sym, ap, ap₂, _∙_}
-use mathlib.Core.Bool.{Bool, true, false, not, cond, xor, Bool·beq}
+use mathlib.Core.Bool.{Bool, true, false, not, cond, xor}
 use lib.Dec.{ltb}
 use lib.IntN.{ℤ, pos, negsuc, negℤ, natAbs, subℕ, negℤ-negℤ, negℤ-+ℤ, _+ℤ_, _-ℤ_, _*ℤ_, zero-*ℤ, *ℤ-comm}
 use mir.Syntax.{w64}
@@ -97,16 +97,3 @@ natAbs-mul (negsuc m) (negsuc n) = refl
 -- a word that was taken apart
 pub rejoin : {x : ℤ} {b : Bool} {n : ℕ} → SFits w64 x → b ≡ isNegative (toZ w64 (ofZ w64 x)) → n ≡ natAbs (toZ w64 (ofZ w64 x)) → withSign b n ≡ x
 rejoin {x} h p q = ap₂ withSign p q ∙ withSign-natAbs (toZ w64 (ofZ w64 x)) ∙ back h
-
--- two signs compared
-pub signs-same : (b c : Bool) → Bool·beq b c ≡ true → b ≡ c
-signs-same true true e = refl
-signs-same true false e = sym e
-signs-same false true e = e
-signs-same false false e = refl
-
-pub signs-differ : (b c : Bool) → Bool·beq b c ≡ false → not b ≡ c
-signs-differ true true e = sym e
-signs-differ true false e = refl
-signs-differ false true e = refl
-signs-differ false false e = e

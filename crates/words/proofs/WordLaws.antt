@@ -81,9 +81,6 @@ unfolding isNegative
 natAbs-negative (pos n) h = let z : _≡_ {A = ℕ} 0 1 = cc in absurd (omega arith)
 natAbs-negative (negsuc n) h = omega arith
 
-pub natAbs-nonnegative : (x : ℤ) → isNegative x ≡ false → natAbs x ≡ mag x
-natAbs-nonnegative x h = ap natAbs (nonnegative-mag x h)
-
 -- an integer from its sign and its absolute value, by the sign
 pub sign-zero : (negative : Bool) {n : ℕ} → n ≡ 0 → pos 0 ≡ withSign negative n
 unfolding withSign

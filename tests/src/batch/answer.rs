@@ -99,6 +99,8 @@ mod tests {
         assert_eq!(done("fx 24 fxdiv-and-mod -7 2"), "-4 -0x4, 1 0x1");
         assert_eq!(done("fx 62 21 11 7"), "2 0x2, -3 -0x3");
         assert_eq!(done("fx 24 fx+/carry 8388607 1 0"), "-8388608 -0x800000, 1 0x1");
+        assert_eq!(done("fx 64 fx+/carry 9223372036854775807 1 0"), "-9223372036854775808 -0x8000000000000000, 1 0x1");
+        assert_eq!(done("fx 64 25 -0x8000000000000000"), "9223372036854775807 0x7fffffffffffffff");
         assert_eq!(done("fx 24 fxand"), "-1 -0x1");
         assert_eq!(done("fx 24 fxrotate-bit-field 5 0 3 3"), "5 0x5");
         assert_eq!(done("fx 62 40 -6 0 61 61"), "-6 -0x6");
@@ -112,15 +114,20 @@ mod tests {
     fn refusals() {
         for (line, number) in [
             ("fx 23 fxnot 0", 1),
+            ("fx 65 fxnot 0", 1),
             ("fx 24 42 0", 2),
             ("fx 24 -0 0", 2),
             ("fx 24 fxand 1 2 3 4 5", 3),
             ("fx 24 fxnot 8388608", 4),
+            ("fx 63 fxnot 0x4000000000000000", 4),
             ("fx 24 fx- -8388608", 5),
+            ("fx 64 fx- -0x8000000000000000", 5),
+            ("fx 64 fxbit-set? 1 0x7fffffffffffffff", 5),
             ("fx 24 fxrotate-bit-field 5 0 3 4", 5),
             ("fx 24 fxrotate-bit-field 5 3 3 1", 5),
             ("fx 24 fxrotate-bit-field 5 3 3 -1", 5),
             ("fx 24 fx+ 8388607 1", 6),
+            ("fx 64 fxdiv -0x8000000000000000 -1", 6),
             ("bitwise bitwise-not", 3),
             ("bitwise bitwise-not 1 2", 3),
             ("bitwise bitwise-bit-set? -4 -1", 5),

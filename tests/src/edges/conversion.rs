@@ -5,38 +5,36 @@ use crate::checker::Checker;
 use crate::outputs::Shape;
 use crate::report::{difference, shown};
 use quebralua_reference::call::LimbCall;
-use quebralua_reference::fixnum_arguments::{greatest, least, numbers};
+use quebralua_reference::fixnum_arguments::{greatest, least, nearest_accepted, numbers, refused_widths};
 use quebralua_reference::reference::integer::Integer;
+use quebralua_reference::reference::width::WIDTHS;
 
 pub fn run(checker: &mut Checker) {
     let mut operands = short(&mut checker.random);
     operands.extend(long(&mut checker.random).into_iter().step_by(2));
     operands.extend(refused());
-    for width in widths() {
+    for width in WIDTHS.chain(refused_widths()) {
         for x in &operands {
             checker.edge(&LimbCall::limbs_to_fixnum(width, x));
         }
-        let numbers = if (24..=62).contains(&width) { numbers(width) } else { numbers(30) };
-        for n in numbers {
+        for n in numbers(nearest_accepted(width)) {
             checker.edge_all_shapes(&LimbCall::fixnum_to_limbs(width, n));
         }
     }
-    for width in 24..=62 {
+    for width in WIDTHS {
         limits(checker, width);
         both_ways(checker, width);
     }
 }
 
-fn widths() -> Vec<u64> {
-    let mut widths: Vec<u64> = (20..=68).collect();
-    widths.extend([0, 1, 2, (1 << 32) + 24, 1 << 63, u64::MAX]);
-    widths
-}
+/// Exponents of the powers of two at which the greatest widths end, or limbs: one, two and three.
+const EXPONENTS: [u64; 8] = [31, 32, 61, 62, 63, 64, 95, 96];
 
-/// Limbs around the limits of the width, and padded to 2, 3, 4, 1,024 and 1,025 limbs.
+/// Limbs around the limits of the width and around those powers of two, and padded to 2, 3, 4, 1,024 and 1,025 limbs.
 fn limits(checker: &mut Checker, width: u64) {
-    let limit = 1i128 << (width - 1);
-    for n in [limit, -limit, limit << 1, -limit << 1, 1 << 31, -1 << 31, 1 << 63, -1 << 63, 1 << 64, 0] {
+    let powers =
+        EXPONENTS.into_iter().chain([width - 1, width]).flat_map(|exponent| [1i128 << exponent, -1 << exponent]);
+    for n in powers.chain([0]) {
         for near in n - 2..=n + 2 {
             let mut limbs = Integer::from_i128(near).to_limbs();
             checker.edge(&LimbCall::limbs_to_fixnum(width, &limbs));

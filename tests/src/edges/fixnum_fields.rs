@@ -2,10 +2,11 @@
 
 use crate::checker::Checker;
 use quebralua_reference::call::FixnumCall;
-use quebralua_reference::fixnum_arguments::{greatest, least, random_fixnum};
+use quebralua_reference::fixnum_arguments::{beyond, greatest, least, random_fixnum};
+use quebralua_reference::reference::width::WIDTHS;
 
 pub fn run(checker: &mut Checker) {
-    for width in 24..=62 {
+    for width in WIDTHS {
         for start in 0..width as i64 {
             for end in start..width as i64 {
                 field(checker, width, start, end);
@@ -33,6 +34,5 @@ fn field(checker: &mut Checker, width: u64, start: i64, end: i64) {
 
 /// Every count that a field of f bits takes, the next ones on either side, and those around the limits of a fixnum.
 fn rotations(width: u64, f: i64) -> impl Iterator<Item = i64> {
-    let (least, greatest) = (least(width), greatest(width));
-    (-1..=f + 1).chain([least, least - 1, greatest, greatest + 1, i64::MIN, i64::MAX])
+    (-1..=f + 1).chain([least(width), greatest(width)]).chain(beyond(width))
 }

@@ -3,15 +3,14 @@
 
 use crate::checker::Checker;
 use quebralua_reference::call::FixnumCall;
-use quebralua_reference::fixnum_arguments::{greatest, least, random_fixnum};
-use quebralua_reference::reference::fixnum::argument_counts;
+use quebralua_reference::fixnum_arguments::{beyond, greatest, least, random_fixnum};
+use quebralua_reference::reference::fixnum::{argument_counts, codes_and_counts};
+use quebralua_reference::reference::width::WIDTHS;
 
 pub fn run(checker: &mut Checker) {
-    for width in 24..=62 {
-        for code in 1..=41 {
-            for count in argument_counts(code) {
-                not_fixnums(checker, width, code, count);
-            }
+    for width in WIDTHS {
+        for (code, count) in codes_and_counts() {
+            not_fixnums(checker, width, code, count);
         }
         for code in (16..=21).chain(33..=41) {
             domains(checker, width, code);
@@ -21,10 +20,10 @@ pub fn run(checker: &mut Checker) {
 }
 
 /// Each set of the four arguments is replaced by numbers beyond each limit. The others are legal for every code, or
-/// outside a domain, which comes after.
+/// outside a domain, which comes after. At width 64 the numbers at the limits stand there, and are never refused 4.
 fn not_fixnums(checker: &mut Checker, width: u64, code: u64, count: u64) {
     let (least, greatest) = (least(width), greatest(width));
-    let beyond = [least - 1, greatest + 1, i64::MIN, i64::MAX];
+    let beyond = beyond(width);
     for others in [[5, 1, 1, 0], [5, 0, 0, -1], [5, least, 2, greatest], [5, 2, 1, 1], [5, 1, 2, 2]] {
         for turn in 0..beyond.len() {
             for set in 0..16 {
@@ -41,9 +40,9 @@ fn domains(checker: &mut Checker, width: u64, code: u64) {
     let (w, least, greatest) = (width as i64, least(width), greatest(width));
     let count = *argument_counts(code).end();
     for second in [least, -w, 1 - w, -1, 0, 1, w / 2, w - 1, w, greatest] {
-        for third in [least, -1, 0, 1, 2, second - 1, second, second + 1, w - 1, w, greatest] {
-            let f = third - second;
-            for fourth in [least, -1, 0, 1, f - 1, f, f + 1, w, greatest] {
+        for third in [least, -1, 0, 1, 2, second.wrapping_sub(1), second, second.wrapping_add(1), w - 1, w, greatest] {
+            let f = third.wrapping_sub(second);
+            for fourth in [least, -1, 0, 1, f.wrapping_sub(1), f, f.wrapping_add(1), w, greatest] {
                 let args = [random_fixnum(&mut checker.random, width), second, third, fourth];
                 checker.edge_fixnum(FixnumCall { width, code, count, args });
             }

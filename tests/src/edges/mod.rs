@@ -2,6 +2,7 @@
 
 mod conversion;
 mod fixnum;
+mod fixnum_carries;
 mod fixnum_fields;
 mod fixnum_places;
 mod limb_fields;
@@ -14,6 +15,7 @@ use crate::checker::Checker;
 
 pub fn fixnum(checker: &mut Checker) {
     fixnum::run(checker);
+    fixnum_carries::run(checker);
     fixnum_fields::run(checker);
     fixnum_places::run(checker);
 }

@@ -4,6 +4,7 @@ use crate::checker::Checker;
 use crate::outputs::Shape;
 use quebralua_reference::call::LimbCall;
 use quebralua_reference::operation::Operation;
+use quebralua_reference::reference::width::WIDTHS;
 
 pub fn run(checker: &mut Checker) {
     for operation in Operation::ALL {
@@ -20,7 +21,7 @@ fn null(checker: &mut Checker, operation: Operation) {
         let operands: Vec<&[u32]> = (0..taken).map(|i| if (empty >> i) & 1 == 1 { &[] } else { limbs }).collect();
         for numbers in [[0; 3], [1; 3], [-1; 3]] {
             let mut call = LimbCall::new(operation, &operands, &numbers[..operation.numbers()]);
-            call.width = 24;
+            call.width = *WIDTHS.start();
             if operation.writes() {
                 checker.write(&call, Shape::Empty);
                 checker.write(&call, Shape::Exact);
@@ -37,7 +38,7 @@ fn shared(checker: &mut Checker, operation: Operation) {
     let parts: [&[u32]; 3] = [&limbs, &limbs[2..], &limbs[..5]];
     for operands in [[parts[0]; 3], parts] {
         let mut call = LimbCall::new(operation, &operands[..operation.operands()], &[3; 3][..operation.numbers()]);
-        call.width = 62;
+        call.width = *WIDTHS.end();
         checker.any(&call);
     }
 }

@@ -3,7 +3,7 @@
 use super::part::{Bitwise, Part};
 use crate::checker::Checker;
 use quebralua_reference::call::FixnumCall;
-use quebralua_reference::fixnum_arguments::{greatest, least, positions, random_fixnum};
+use quebralua_reference::fixnum_arguments::{greatest, least, positions, random_fixnum, random_width};
 use quebralua_reference::random::Random;
 use quebralua_reference::reference::integer::Integer;
 use quebralua_reference::reference::lists::Step;
@@ -17,7 +17,7 @@ pub struct Fixnums {
 impl Fixnums {
     /// Some fields are as long as the width allows, and some have one bit.
     pub fn random(random: &mut Random) -> Fixnums {
-        let width = 24 + random.below(39);
+        let width = random_width(random);
         let last = width as i64 - 1;
         let start = random.between(0, last - 1);
         let (start, end) = match random.below(16) {

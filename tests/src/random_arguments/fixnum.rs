@@ -1,7 +1,10 @@
 //! Random fixnum calls.
 
 use crate::call::FixnumCall;
-use crate::fixnum_arguments::{greatest, kind, least, numbers, positions, random_fixnum, Kind, NEW_BITS};
+use crate::fixnum_arguments::{
+    beyond, kind, least, nearest_accepted, numbers, positions, random_fixnum, random_width, refused_widths, Kind,
+    NEW_BITS,
+};
 use crate::random::Random;
 use crate::reference::fixnum::argument_counts;
 
@@ -10,7 +13,7 @@ pub fn call(random: &mut Random) -> FixnumCall {
     let width = width(random);
     let code = if random.one_in(100) { random.choose(&[0, 42, 43, u64::MAX]) } else { 1 + random.below(41) };
     let count = count(random, code);
-    let fixnum_width = width.clamp(24, 62);
+    let fixnum_width = nearest_accepted(width);
     let mut args = [0; 4];
     for (index, arg) in args.iter_mut().enumerate() {
         *arg = argument(random, fixnum_width, code, index);
@@ -23,8 +26,7 @@ pub fn call(random: &mut Random) -> FixnumCall {
     }
     // An argument that is no fixnum, beside those of any value: a rotation count is seldom one.
     if random.one_in(32) {
-        let beyond = [i64::MIN, least(fixnum_width) - 1, greatest(fixnum_width) + 1, i64::MAX];
-        args[random.below(4) as usize] = random.choose(&beyond);
+        args[random.below(4) as usize] = random.choose(&beyond(fixnum_width));
     }
     FixnumCall { width, code, count, args }
 }
@@ -32,9 +34,9 @@ pub fn call(random: &mut Random) -> FixnumCall {
 /// An accepted width, most often.
 pub fn width(random: &mut Random) -> u64 {
     match random.below(100) {
-        0 => random.choose(&[0, 23, 63, 64, u64::MAX]),
+        0 => random.choose(&refused_widths()),
         1 => random.next_u64() >> random.below(64),
-        _ => 24 + random.below(39),
+        _ => random_width(random),
     }
 }
 
@@ -127,7 +129,7 @@ mod tests {
         assert!(share(DONE, |_, f, count| f > 0 && count == f) >= 5);
         assert!(share(DONE, |_, f, _| f == 0) >= 5);
         assert!(share(DONE, |width, f, _| f == width - 1) >= 2);
-        assert!(share(DOMAIN, |_, f, count| f >= 0 && count == f + 1) >= 1);
+        assert!(share(DOMAIN, |_, f, count| f >= 0 && count.checked_sub(1) == Some(f)) >= 1);
         assert!(share(DOMAIN, |_, f, count| f >= 0 && count == -1) >= 1);
         assert!(share(DONE, |_, f, count| 0 < count && count < f) >= 40);
     }

@@ -2,8 +2,9 @@
 
 use crate::checker::Checker;
 use quebralua_reference::call::LimbCall;
-use quebralua_reference::fixnum_arguments::random_fixnum;
+use quebralua_reference::fixnum_arguments::nearest_accepted;
 use quebralua_reference::operation::Operation;
+use quebralua_reference::random::Random;
 use quebralua_reference::random_arguments::fixnum::width;
 use quebralua_reference::random_arguments::limbs::{numbers, operand};
 use quebralua_reference::reference::integer::Integer;
@@ -25,12 +26,12 @@ pub fn call(checker: &mut Checker) {
 pub fn conversion(checker: &mut Checker) {
     let random = &mut checker.random;
     let width = width(random);
-    let size = (width.clamp(24, 62) + random.below(2)).min(64);
-    let n = random_fixnum(random, size);
+    let size = nearest_accepted(width) + random.below(2);
+    let n = integer(random, size);
     if random.one_in(2) {
-        return checker.any(&LimbCall::fixnum_to_limbs(width, n));
+        return checker.any(&LimbCall::fixnum_to_limbs(width, n as i64));
     }
-    let mut limbs = Integer::from_i128(i128::from(n)).to_limbs();
+    let mut limbs = Integer::from_i128(n).to_limbs();
     if random.one_in(3) {
         let length = limbs.len() + 1 + random.below(4) as usize;
         limbs.resize(length, if n < 0 { u32::MAX } else { 0 });
@@ -38,4 +39,10 @@ pub fn conversion(checker: &mut Checker) {
         limbs = operand(random);
     }
     checker.any(&LimbCall::limbs_to_fixnum(width, &limbs));
+}
+
+/// A random integer of at most `size` bits, its sign among them.
+fn integer(random: &mut Random, size: u64) -> i128 {
+    let any = i128::from(random.next_i64()) << 64 | i128::from(random.next_u64());
+    any >> (128 - size + random.below(size))
 }

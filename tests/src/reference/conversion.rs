@@ -1,8 +1,8 @@
 //! The conversions between fixnum and limbs. The capacity is in `output`.
 
-use super::fixnum::{is_fixnum, is_width};
 use super::integer::Integer;
 use super::limbs::integers;
+use super::width::{is_fixnum, is_width};
 use crate::refusal::{NOT_FIXNUM, SIZE, WIDTH};
 
 pub fn limbs_to_fixnum(width: u64, limbs: &[u32]) -> Result<i64, u64> {

@@ -1,6 +1,7 @@
 //! The fixnum calls: the table of argument counts, the domains, and the order and places of the refusals.
 
 use super::fixnum_results::exact;
+use super::width::{is_fixnum, is_width};
 use crate::refusal::{CODE, COUNT, DOMAIN, DONE, NOT_FIXNUM, SIZE, WIDTH};
 use std::ops::RangeInclusive;
 
@@ -44,15 +45,6 @@ pub fn fixnum(width: u64, code: u64, args: [i64; 4], count: u64) -> Answer {
     Answer { refusal: DONE, first: first as i64, second: second as i64, place: 0 }
 }
 
-pub fn is_width(width: u64) -> bool {
-    (24..=62).contains(&width)
-}
-
-pub fn is_fixnum(width: u64, x: i128) -> bool {
-    let limit = 1i128 << (width - 1);
-    -limit <= x && x < limit
-}
-
 /// How many arguments the code takes.
 pub fn argument_counts(code: u64) -> RangeInclusive<u64> {
     match code {
@@ -75,6 +67,11 @@ pub fn argument_counts(code: u64) -> RangeInclusive<u64> {
         41 => 3..=3,
         _ => unreachable!("no code {code}"),
     }
+}
+
+/// Every code with every number of arguments that it takes.
+pub fn codes_and_counts() -> impl Iterator<Item = (u64, u64)> {
+    (1..=41).flat_map(|code| argument_counts(code).map(move |count| (code, count)))
 }
 
 /// Whether the argument in that place is in its domain, where those before it are in theirs.

@@ -1,5 +1,6 @@
 //! The second implementation: every call, from the rules of R6RS, 01 and 02, and not from the library's code.
 //!
+//! - `width`: the accepted widths, and what a fixnum is at one
 //! - `fixnum`: the fixnum calls, on i128
 //! - `fixnum_results`: their exact results
 //! - `integer`: an integer of any size as a vector of bits and a sign, and its shortest form in limbs
@@ -8,6 +9,7 @@
 //! - `conversion`: between fixnum and limbs
 //! - `output`: what a result does to the output buffer
 //! - `lists`: the net count of a list of rotate and reverse calls
+//! - `wider`: how the answers to one fixnum call at two widths agree
 
 pub mod conversion;
 pub mod fixnum;
@@ -17,6 +19,8 @@ pub mod limb_results;
 pub mod limbs;
 pub mod lists;
 pub mod output;
+pub mod wider;
+pub mod width;
 
 #[cfg(test)]
 mod tests;

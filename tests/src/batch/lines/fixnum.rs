@@ -27,3 +27,19 @@ fn operation(random: &mut Random, code: u64) -> String {
         _ => number(random, i128::from(code)),
     }
 }
+
+#[cfg(test)]
+mod tests {
+    use super::*;
+    use crate::batch::reader;
+    use crate::reference::width::WIDTHS;
+
+    #[test]
+    fn every_width_and_the_next_ones_come() {
+        let mut random = Random::new(1);
+        let widths: Vec<Option<u64>> = (0..20_000).map(|_| reader::unsigned(&words(&mut random)[1])).collect();
+        for width in WIDTHS.start() - 1..=WIDTHS.end() + 1 {
+            assert!(widths.contains(&Some(width)), "{width}");
+        }
+    }
+}

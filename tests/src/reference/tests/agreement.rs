@@ -1,6 +1,7 @@
 //! The fixnum calls on i128 and the limb calls on vectors of bits agree where both are defined.
 
 use super::{any_size, call, small};
+use crate::fixnum_arguments::random_width;
 use crate::operation::Operation::{self, *};
 use crate::random::Random;
 use crate::reference::conversion::{fixnum_to_limbs, limbs_to_fixnum};
@@ -45,14 +46,14 @@ fn fixnum_and_limbs() {
     let mut random = Random::new(3);
     for round in 0..60_000 {
         let (code, operation) = PAIRS[round % PAIRS.len()];
-        let width = random.between(24, 62);
-        let size = width as u64 - 1;
+        let width = random_width(&mut random);
+        let size = width - 1;
         let operands: Vec<i128> = (0..operation.operands()).map(|_| any_size(&mut random, size)).collect();
-        let numbers = numbers(&mut random, operation, width);
+        let numbers = numbers(&mut random, operation, width as i64);
         let mut args = vec![operands[0] as i64];
         args.extend(&numbers);
         args.extend(operands[1..].iter().map(|&n| n as i64));
-        let (refusal, first, _) = call(width as u64, code, &args);
+        let (refusal, first, _) = call(width, code, &args);
         let limbs = small(operation, &operands, &numbers);
         if refusal == 0 {
             assert_eq!(limbs, Ok(i128::from(first)), "{operation:?} {args:?}");
@@ -67,7 +68,7 @@ fn fixnum_and_limbs() {
 fn conversion_both_ways() {
     let mut random = Random::new(4);
     for _ in 0..20_000 {
-        let width = random.between(24, 62) as u64;
+        let width = random_width(&mut random);
         let n = any_size(&mut random, width - 1) as i64;
         let mut limbs = fixnum_to_limbs(width, n).expect("a fixnum");
         assert_eq!(limbs_to_fixnum(width, &limbs), Ok(n));

@@ -1,6 +1,7 @@
 //! Tests of the second implementation itself, which need no library.
 
 mod agreement;
+mod carries;
 mod cases;
 mod exactness;
 mod forms;
@@ -8,12 +9,18 @@ mod places;
 mod programs;
 mod rotations;
 mod samples;
+mod whole_words;
+mod wider;
+mod widths;
 
 use super::fixnum::{fixnum, Answer};
 use super::integer::Integer;
 use super::limbs;
 use crate::operation::Operation;
 use crate::random::Random;
+
+/// Widths at their limits, and around half a word.
+const SOME_WIDTHS: [u64; 8] = [24, 30, 31, 32, 61, 62, 63, 64];
 
 /// The answer to a fixnum call with as many arguments as are given.
 fn answer(width: u64, code: u64, args: &[i64]) -> Answer {

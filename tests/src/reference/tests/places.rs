@@ -1,14 +1,13 @@
 //! The place: for refusal 4 the first counted argument that is not a fixnum, for 5 the first, left to right, that breaks
 //! a domain given those before it. Code 15's size refusal and all else carry 0.
 
-use super::answer;
-use crate::fixnum_arguments::{greatest, least};
+use super::{answer, SOME_WIDTHS};
+use crate::fixnum_arguments::{beyond, greatest, least};
 use crate::random::Random;
 use crate::random_arguments::fixnum::call;
-use crate::reference::fixnum::{argument_counts, fixnum, Answer};
+use crate::reference::fixnum::{codes_and_counts, fixnum, Answer};
+use crate::reference::width::WHOLE_WORD;
 use crate::refusal::{CODE, COUNT, DOMAIN, DONE, NOT_FIXNUM, SIZE, WIDTH};
-
-const WIDTHS: [u64; 5] = [24, 30, 31, 61, 62];
 
 /// Arguments that every code takes.
 const LEGAL: [i64; 4] = [5, 1, 1, 0];
@@ -31,17 +30,15 @@ fn outside_domain<const N: usize>(codes: &[u64], width: u64, expected: u64, list
 
 #[test]
 fn the_first_counted_argument_that_is_not_a_fixnum() {
-    for width in WIDTHS {
-        for code in 1..=41 {
-            for count in argument_counts(code) {
-                for set in 0..16u64 {
-                    let beyond = [least(width) - 1, greatest(width) + 1, i64::MIN, i64::MAX];
-                    let args = std::array::from_fn(|i| if (set >> i) & 1 == 1 { beyond[i] } else { LEGAL[i] });
-                    let first = u64::from(set.trailing_zeros()) + 1;
-                    let expected = if first <= count { (NOT_FIXNUM, first) } else { (DONE, 0) };
-                    let Answer { refusal, place, .. } = fixnum(width, code, args, count);
-                    assert_eq!((refusal, place), expected, "width {width}, code {code}, count {count}: {args:?}");
-                }
+    for width in SOME_WIDTHS.into_iter().filter(|&width| width != WHOLE_WORD) {
+        let beyond = beyond(width);
+        for (code, count) in codes_and_counts() {
+            for set in 0..16u64 {
+                let args = std::array::from_fn(|i| if (set >> i) & 1 == 1 { beyond[i] } else { LEGAL[i] });
+                let first = u64::from(set.trailing_zeros()) + 1;
+                let expected = if first <= count { (NOT_FIXNUM, first) } else { (DONE, 0) };
+                let Answer { refusal, place, .. } = fixnum(width, code, args, count);
+                assert_eq!((refusal, place), expected, "width {width}, code {code}, count {count}: {args:?}");
             }
         }
     }
@@ -60,7 +57,7 @@ fn a_fixnum_comes_before_a_domain() {
 
 #[test]
 fn divisors_positions_and_distances() {
-    for width in WIDTHS {
+    for width in SOME_WIDTHS {
         let w = width as i64;
         outside_domain(&[16, 17, 18, 19, 20, 21], width, 2, &[[0]]);
         outside_domain(&[33, 38, 39], width, 2, &[[-1], [w], [least(width)], [greatest(width)]]);
@@ -77,7 +74,7 @@ fn new_bits() {
 /// The end is tested against the start, so a bad start comes first, whatever the end is.
 #[test]
 fn fields() {
-    for width in WIDTHS {
+    for width in SOME_WIDTHS {
         let (w, least, greatest) = (width as i64, least(width), greatest(width));
         let starts = [[-1, 3], [-1, -1], [-1, -2], [-1, w], [w, w - 1], [w, w], [w, w + 1], [least, 0], [greatest, 0]];
         let ends = [[5, 4], [5, 0], [1, 0], [w - 1, w - 2], [0, -1], [0, w], [w - 1, w], [5, least], [5, greatest]];

@@ -3,7 +3,7 @@
 use super::{call, small};
 use crate::operation::Operation::*;
 use crate::reference::{limbs::result, output::write};
-use crate::refusal::{DOMAIN, ROOM, SIZE, WIDTH};
+use crate::refusal::{DOMAIN, ROOM, SIZE};
 
 #[test]
 fn fixnum_shifts_at_width_24() {
@@ -11,12 +11,6 @@ fn fixnum_shifts_at_width_24() {
     assert_eq!(call(24, 37, &[1, 23]), (SIZE, 0, 0));
     assert_eq!(call(24, 37, &[1, 24]), (DOMAIN, 0, 0));
     assert_eq!(call(24, 37, &[-1, 23]), (0, -8_388_608, 0));
-}
-
-#[test]
-fn widths_outside_24_to_62() {
-    assert_eq!(call(23, 13, &[1, 2]), (WIDTH, 0, 0));
-    assert_eq!(call(63, 13, &[1, 2]), (WIDTH, 0, 0));
 }
 
 #[test]
@@ -46,5 +40,9 @@ fn limb_shifts_at_the_longest_result() {
 #[test]
 fn a_product_that_wraps_at_64_bits() {
     let x = 1 << 32;
-    assert_eq!(call(62, 14, &[x, x]), (SIZE, 0, 0));
+    for width in [62, 63, 64] {
+        assert_eq!(call(width, 14, &[x, x]), (SIZE, 0, 0));
+        assert_eq!(call(width, 14, &[x, x << 1]), (SIZE, 0, 0));
+        assert_eq!(call(width, 14, &[x + 1, x - 1]), (SIZE, 0, 0));
+    }
 }

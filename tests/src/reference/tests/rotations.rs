@@ -1,12 +1,11 @@
 //! Full rotations, empty fields, and one rotation after another.
 
-use super::{any_size, call, small};
-use crate::fixnum_arguments::{greatest, least};
+use super::{any_size, call, small, SOME_WIDTHS};
+use crate::fixnum_arguments::{beyond, greatest, least};
 use crate::operation::Operation::Rotate;
 use crate::random::Random;
+use crate::reference::width::WHOLE_WORD;
 use crate::refusal::{DOMAIN, NOT_FIXNUM};
-
-const WIDTHS: [u64; 4] = [24, 30, 61, 62];
 
 /// Numbers of either sign.
 fn numbers(width: u64) -> [i64; 8] {
@@ -15,7 +14,7 @@ fn numbers(width: u64) -> [i64; 8] {
 
 /// Every field of a width that has a bit, and every number.
 fn fields(mut each: impl FnMut(u64, i64, i64, i64)) {
-    for width in WIDTHS {
+    for width in SOME_WIDTHS {
         for end in 1..width as i64 {
             for start in 0..end {
                 numbers(width).into_iter().for_each(|x| each(width, x, start, end));
@@ -49,13 +48,15 @@ fn counts_outside_the_field_are_refused() {
 fn counts_below_a_full_rotation_still_rotate() {
     assert_eq!(rotated(24, 5, 0, 3, 2), 6);
     assert_eq!(rotated(24, -6, 0, 3, 1), -4);
-    assert_eq!(rotated(62, 1, 0, 61, 60), 1 << 60);
-    assert_eq!(rotated(62, least(62) + 1, 0, 61, 60), least(62) + (1 << 60));
+    for (width, last) in [(62, 61), (63, 62), (64, 63)] {
+        assert_eq!(rotated(width, 1, 0, last, last - 1), 1 << (last - 1));
+        assert_eq!(rotated(width, least(width) + 1, 0, last, last - 1), least(width) + (1 << (last - 1)));
+    }
 }
 
 #[test]
 fn empty_fields_take_the_count_0_only() {
-    for width in WIDTHS {
+    for width in SOME_WIDTHS {
         for place in 0..width as i64 {
             for x in numbers(width) {
                 assert_eq!(rotated(width, x, place, place, 0), x);
@@ -69,7 +70,7 @@ fn empty_fields_take_the_count_0_only() {
 
 #[test]
 fn no_field_ends_at_the_width_or_below_its_start() {
-    for width in WIDTHS {
+    for width in SOME_WIDTHS {
         let w = width as i64;
         for (start, end, count) in [(w, w, 0), (-1, -1, 0), (0, w, w), (w - 1, w, 1), (3, 2, 0), (3, 2, -1)] {
             assert_eq!(
@@ -83,10 +84,12 @@ fn no_field_ends_at_the_width_or_below_its_start() {
 
 #[test]
 fn a_count_that_is_no_fixnum_is_refused_first() {
-    for width in WIDTHS {
+    for width in SOME_WIDTHS {
+        // At width 64 every count is a fixnum, and none of these is in its domain.
+        let expected = if width == WHOLE_WORD { DOMAIN } else { NOT_FIXNUM };
         for (start, end) in [(0, 3), (3, 3), (3, 2), (0, width as i64)] {
-            for count in [least(width) - 1, greatest(width) + 1, i64::MIN, i64::MAX] {
-                assert_eq!(call(width, 40, &[5, start, end, count]), (NOT_FIXNUM, 0, 0));
+            for count in beyond(width) {
+                assert_eq!(call(width, 40, &[5, start, end, count]), (expected, 0, 0));
             }
         }
     }
@@ -103,7 +106,7 @@ fn limbs_take_any_count_from_0() {
 
 /// A width, a number, and a field that has a bit; one field in eight is as long as the width allows.
 fn random_field(random: &mut Random) -> (u64, i64, i64, i64) {
-    let width = random.choose(&WIDTHS);
+    let width = random.choose(&SOME_WIDTHS);
     let x = any_size(random, width - 1) as i64;
     let last = width as i64 - 1;
     if random.one_in(8) {

@@ -1,6 +1,7 @@
 //! The sample computations of R6RS, where they decide, against the results taken bit by bit.
 
 use super::{any_size, call, small};
+use crate::fixnum_arguments::random_width;
 use crate::operation::Operation::{self, *};
 use crate::random::Random;
 
@@ -63,12 +64,12 @@ fn limb_samples() {
 fn fixnum_samples() {
     let mut random = Random::new(2);
     for _ in 0..20_000 {
-        let width = random.between(24, 62);
-        let x = any_size(&mut random, width as u64 - 1);
-        let y = any_size(&mut random, width as u64 - 1);
-        let start = random.between(0, width - 1);
-        let end = random.between(start, width - 1);
-        let fx = |code, args: &[i64]| call(width as u64, code, args);
+        let width = random_width(&mut random);
+        let x = any_size(&mut random, width - 1);
+        let y = any_size(&mut random, width - 1);
+        let start = random.between(0, width as i64 - 1);
+        let end = random.between(start, width as i64 - 1);
+        let fx = |code, args: &[i64]| call(width, code, args);
         let (a, b) = (x as i64, y as i64);
         let field = (x & ((1 << end) - 1)) >> start;
         assert_eq!(fx(35, &[a, start, end]), (0, field as i64, 0));

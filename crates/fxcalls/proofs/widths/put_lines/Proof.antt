@@ -1,17 +1,17 @@
 -- `widths::put_lines` is safe and ends. Assumes nothing.
 use borrow.Author.Needs.{needs}
 use native.Mathlib.Omega.{arith}
-use Prim.Native.Nat.{_-_, _≤_}
+use Prim.Native.Nat.{_-_, _^_}
 use mathlib.Core.Path.{_≡_}
 use lib.ListN.{length}
 use Rattle.fxcalls.proofs.widths.put_lines.Statement.{statement}
 use Rattle.fxcalls.proofs.widths.put_lines.Tie as tie
 
 abbrev Inv-loop : tie.InvT-loop
-Inv-loop request out₀ filled₀ width₀ out filled width = (length out ≡ length out₀) × (width ≤ 63)
+Inv-loop request out₀ filled₀ width₀ out filled width = length out ≡ length out₀
 
 abbrev μ-loop : tie.MeasureT-loop
-μ-loop request out₀ filled₀ width₀ out filled width = 63 - width
+μ-loop request out₀ filled₀ width₀ out filled width = 2 ^ 64 - width
 
 returns : tie.Need-returns Inv-loop μ-loop
 returns c = search needs

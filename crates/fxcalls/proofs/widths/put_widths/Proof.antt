@@ -1,17 +1,17 @@
 -- `widths::put_widths` is safe and ends. Assumes nothing.
 use borrow.Author.Needs.{needs}
 use native.Mathlib.Omega.{arith}
-use Prim.Native.Nat.{_-_, _≤_}
+use Prim.Native.Nat.{_-_, _^_}
 use mathlib.Core.Path.{_≡_}
 use lib.ListN.{length}
 use Rattle.fxcalls.proofs.widths.put_widths.Statement.{statement}
 use Rattle.fxcalls.proofs.widths.put_widths.Tie as tie
 
 abbrev Inv-loop : tie.InvT-loop
-Inv-loop request width out₀ at filled₀ v₀ t8 out filled v = (length out ≡ length out₀) × (v ≤ 63)
+Inv-loop request width out₀ at filled₀ v₀ t8 out filled v = length out ≡ length out₀
 
 abbrev μ-loop : tie.MeasureT-loop
-μ-loop request width out₀ at filled₀ v₀ t8 out filled v = 63 - v
+μ-loop request width out₀ at filled₀ v₀ t8 out filled v = 2 ^ 64 - v
 
 returns : tie.Need-returns Inv-loop μ-loop
 returns c = search needs

@@ -6,7 +6,7 @@ use lib.Signed.{mag}
 use mir.Syntax.{w64}
 use mir.Val.{SFits, toZ, ofZ}
 use Rattle.bits.specs.Testbit.{isNegative}
-use mathlib.Core.Bool.{true, false}
+use mathlib.Core.Bool.{true}
 use Rattle.words.proofs.WordLaws.{back, back-word, is-negative, minus-one-minus, nonnegative-mag, cast-word, natAbs-negative}
 use Rattle.words.proofs.sign.absolute.Statement.{statement}
 use Rattle.words.proofs.sign.absolute.Tie as tie
