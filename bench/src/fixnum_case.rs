@@ -1,4 +1,5 @@
-//! The two sides of a fixnum call on the same random arguments. Making a case compares their results.
+//! The two sides of a fixnum call on the same random arguments. Making a case compares their answers, also on arguments
+//! that are refused and drawn again.
 
 use std::hint::black_box;
 use std::rc::Rc;
@@ -9,7 +10,22 @@ use crate::plain_fixnum::Answer;
 use crate::random::Random;
 use crate::timing::{require, Case, Side};
 
-const WIDTH: u64 = 61;
+/// Where a call is measured.
+#[derive(Clone, Copy)]
+struct Setting {
+    width: u64,
+    /// How long numbers are at least: so many bits, beside the sign, are random.
+    shortest: i64,
+}
+
+/// All calls are measured here.
+const USUAL: Setting = Setting { width: 61, shortest: 0 };
+
+/// Here fx+, fx- and the operations with a carry are measured too. Every i64 is a fixnum, and numbers are long: many sums
+/// do not fit in an i64, and many carries are not 0.
+const WIDEST: Setting = Setting { width: 64, shortest: 63 };
+const WIDEST_CODES: [u64; 5] = [13, 15, 22, 23, 24];
+
 const INPUTS: usize = 4096;
 
 /// An operation, what its arguments are, and its function in plain Rust.
@@ -31,21 +47,31 @@ pub enum Argument {
     Bit,
 }
 
-pub fn cases(random: &mut Random) -> Vec<Case> {
-    CALLS.iter().zip(1..).map(|(call, code)| case(random, call, code)).collect()
+/// A row of the table.
+pub struct FixnumCase {
+    pub code: u64,
+    pub case: Case,
 }
 
-fn case(random: &mut Random, call: &Call, code: u64) -> Case {
-    let inputs: Rc<Vec<[i64; 4]>> = Rc::new((0..INPUTS).map(|_| accepted(random, call)).collect());
+pub fn cases(random: &mut Random) -> Vec<FixnumCase> {
+    let usual = (1..=CALLS.len() as u64).map(|code| (code, USUAL));
+    let widest = WIDEST_CODES.map(|code| (code, WIDEST));
+    usual.chain(widest).map(|(code, setting)| FixnumCase { code, case: case(random, code, setting) }).collect()
+}
+
+fn case(random: &mut Random, code: u64, setting: Setting) -> Case {
+    let (call, width) = (&CALLS[code as usize - 1], setting.width);
+    let name = if width == USUAL.width { call.name.to_string() } else { format!("{} at width {width}", call.name) };
     let count = call.arguments.len() as u64;
-    for input in inputs.iter() {
-        let ours = fixnum(WIDTH, code, count, *input).result().map_err(Refusal::from);
-        let same = ours == (call.plain)(WIDTH, input);
-        require(same, call.name, "plain Rust");
-    }
+    let compared = |places: &[i64; 4]| {
+        let ours = fixnum(width, code, count, *places).result().map_err(Refusal::from);
+        require(ours == (call.plain)(width, places), &name, "plain Rust");
+        ours
+    };
+    let inputs = Rc::new((0..INPUTS).map(|_| accepted(random, setting, call.arguments, compared)).collect());
     // The compiler must not know which function is called, nor the width. Both sides read the answer as a caller does: the refusal, then
     // the results or, of a refused call, why.
-    let (width, plain) = (black_box(WIDTH), black_box(call.plain));
+    let (width, plain) = (black_box(width), black_box(call.plain));
     let ours = Side::new(&inputs, move |places| {
         let answer = fixnum(width, code, count, *places);
         match answer.refusal {
@@ -57,28 +83,33 @@ fn case(random: &mut Random, call: &Call, code: u64) -> Case {
         Ok((first, second)) => first ^ second,
         Err(refusal) => refusal as i64,
     });
-    Case::new(call.name, ours, None, plain)
+    Case::new(&name, ours, None, plain)
 }
 
 /// Random arguments, drawn again until the call is not refused.
-fn accepted(random: &mut Random, call: &Call) -> [i64; 4] {
+fn accepted(
+    random: &mut Random,
+    setting: Setting,
+    arguments: &[Argument],
+    call: impl Fn(&[i64; 4]) -> Answer,
+) -> [i64; 4] {
     loop {
         let mut places = [0; 4];
-        for (place, &argument) in places.iter_mut().zip(call.arguments) {
-            *place = draw(random, argument);
+        for (place, &argument) in places.iter_mut().zip(arguments) {
+            *place = draw(random, setting, argument);
         }
-        if (call.plain)(WIDTH, &places).is_ok() {
+        if call(&places).is_ok() {
             return places;
         }
     }
 }
 
-fn draw(random: &mut Random, argument: Argument) -> i64 {
-    let last = WIDTH as i64 - 1;
+fn draw(random: &mut Random, setting: Setting, argument: Argument) -> i64 {
+    let last = setting.width as i64 - 1;
     match argument {
         Argument::Number => {
-            let limit = 1 << random.between(0, last);
-            random.between(-limit, limit - 1)
+            let least = -1 << random.between(setting.shortest, last);
+            random.between(least, !least)
         }
         Argument::Position => random.between(0, last),
         Argument::Distance => random.between(-last, last),

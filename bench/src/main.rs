@@ -33,7 +33,7 @@ fn main() {
     let mut fixnums = fixnum_case::cases(&mut random);
     for _ in 0..SWEEPS {
         let lengths = [&mut limbs.one, &mut limbs.medium, &mut limbs.long, &mut limbs.short_results];
-        for case in lengths.into_iter().flatten().chain(&mut fixnums) {
+        for case in lengths.into_iter().flatten().chain(fixnums.iter_mut().map(|row| &mut row.case)) {
             case.measure();
         }
     }

@@ -23,7 +23,8 @@ impl Random {
 
     /// A number from `least` to `greatest`.
     pub fn between(&mut self, least: i64, greatest: i64) -> i64 {
-        let count = (greatest - least) as u128 + 1;
-        least + ((u128::from(self.next_u64()) * count) >> 64) as i64
+        let count = u128::from(least.abs_diff(greatest)) + 1;
+        let offset = (u128::from(self.next_u64()) * count) >> 64;
+        least.wrapping_add_unsigned(offset as u64)
     }
 }

@@ -1,5 +1,6 @@
 //! The tables, in Markdown.
 
+use crate::fixnum_case::FixnumCase;
 use crate::timing::Case;
 
 /// The cases of the limb calls, in the same order at each length.
@@ -45,16 +46,17 @@ pub fn limbs(cases: &LimbCases) {
     }
 }
 
-pub fn fixnums(cases: &[Case]) {
+pub fn fixnums(cases: &[FixnumCase]) {
     println!("### Fixnum calls\n");
     println!("| Code | Fixnum call | Rust |");
     println!("|--:|---|--:|");
-    for (case, code) in cases.iter().zip(1..) {
+    for FixnumCase { code, case } in cases {
         println!("| {code} | {} | {} |", case.name, ratio(case.over_plain()));
     }
 }
 
-pub fn aims(limbs: &LimbCases, fixnums: &[Case]) {
+pub fn aims(limbs: &LimbCases, fixnums: &[FixnumCase]) {
+    let fixnums = fixnums.iter().map(|row| &row.case);
     let aimed = || limbs.long.iter().filter(|case| LIMB_AIM_CALLS.contains(&case.name.as_str()));
     let gmp = |case: &Case| case.over_gmp().unwrap_or(f64::INFINITY);
     let least = |case: &Case| gmp(case).min(case.over_plain());
@@ -65,7 +67,7 @@ pub fn aims(limbs: &LimbCases, fixnums: &[Case]) {
     println!("| {what}: within 2 times GMP | {} |", missed(aimed(), gmp, LIMB_AIM));
     println!("| The same: within 2 times plain Rust | {} |", missed(aimed(), Case::over_plain, LIMB_AIM));
     println!("| The same: within 2 times one of the two | {} |", missed(aimed(), least, LIMB_AIM));
-    println!("| Fixnum calls: within 3 times plain Rust | {} |", missed(fixnums.iter(), Case::over_plain, FIXNUM_AIM));
+    println!("| Fixnum calls: within 3 times plain Rust | {} |", missed(fixnums, Case::over_plain, FIXNUM_AIM));
 }
 
 /// The cases above the aim, each with its ratio.

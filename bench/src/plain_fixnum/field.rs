@@ -1,6 +1,6 @@
 //! Single bits, and fields: the bits from start up to, but not at, end.
 
-use super::{check, require, yes_or_no, Answer};
+use super::{check, is_position, low_bits, require, yes_or_no, Answer};
 use crate::binding::Refusal;
 
 pub fn bit_set(width: u64, x: i64, position: i64) -> Answer {
@@ -13,9 +13,7 @@ pub fn bit_set(width: u64, x: i64, position: i64) -> Answer {
 pub fn copy_bit(width: u64, x: i64, position: i64, bit: i64) -> Answer {
     check(width, [x, position, bit])?;
     require(is_position(width, position) && (0..=1).contains(&bit), Refusal::Domain)?;
-    let unused = 64 - width;
-    let result = x & !(1 << position) | bit << position;
-    Ok((result << unused >> unused, 0))
+    Ok((low_bits(width, x & !(1 << position) | bit << position), 0))
 }
 
 pub fn bit_field(width: u64, x: i64, start: i64, end: i64) -> Answer {
@@ -33,7 +31,7 @@ pub fn copy_bit_field(width: u64, x: i64, start: i64, end: i64, source: i64) -> 
 pub fn rotate(width: u64, x: i64, start: i64, end: i64, count: i64) -> Answer {
     check(width, [x, start, end, count])?;
     check_field(width, start, end)?;
-    require(0 <= count && count < end - start, Refusal::Domain)?;
+    require(0 <= count && count <= end - start, Refusal::Domain)?;
     let bits = field(x, start, end);
     let rotated = bits << count | bits >> (end - start - count);
     Ok((replace(x, start, end, rotated), 0))
@@ -46,17 +44,13 @@ pub fn reverse(width: u64, x: i64, start: i64, end: i64) -> Answer {
     Ok((replace(x, start, end, mirrored as i64), 0))
 }
 
-fn is_position(width: u64, position: i64) -> bool {
-    0 <= position && position < width as i64
-}
-
 fn check_field(width: u64, start: i64, end: i64) -> Result<(), Refusal> {
     require(0 <= start && start <= end && end < width as i64, Refusal::Domain)
 }
 
-/// So many ones, from bit 0 on; at most 61.
+/// So many ones, from bit 0 on; at most 63.
 fn ones(size: i64) -> i64 {
-    (1 << size) - 1
+    !(-1 << size)
 }
 
 fn field(x: i64, start: i64, end: i64) -> i64 {

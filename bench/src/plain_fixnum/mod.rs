@@ -8,14 +8,19 @@ pub mod field;
 pub mod logical;
 pub mod shift;
 
+use std::ops::RangeInclusive;
+
 use crate::binding::Refusal;
+
+/// The widths that are allowed. At the greatest every i64 is a fixnum.
+const WIDTHS: RangeInclusive<u64> = 24..=64;
 
 /// Two results; an operation with one has 0 as second.
 pub type Answer = Result<(i64, i64), Refusal>;
 
 /// Whether the width is allowed and each argument is a fixnum.
 fn check<const N: usize>(width: u64, arguments: [i64; N]) -> Result<(), Refusal> {
-    if !(24..=62).contains(&width) {
+    if !WIDTHS.contains(&width) {
         return Err(Refusal::Width);
     }
     if !arguments.iter().all(|&x| is_fixnum(width, x)) {
@@ -24,9 +29,21 @@ fn check<const N: usize>(width: u64, arguments: [i64; N]) -> Result<(), Refusal>
     Ok(())
 }
 
+/// Adding half of their number moves the fixnums to 0 and up. So one comparison is enough, which is quicker than two.
 fn is_fixnum(width: u64, x: i64) -> bool {
     let half = 1 << (width - 1);
-    -half <= x && x < half
+    x.wrapping_add(half) as u64 <= u64::MAX >> (64 - width)
+}
+
+/// The low bits of x, as many as the width, as a signed number.
+fn low_bits(width: u64, x: i64) -> i64 {
+    let unused = 64 - width;
+    x << unused >> unused
+}
+
+/// The distance of a shift that goes to one side only has the same domain.
+fn is_position(width: u64, position: i64) -> bool {
+    0 <= position && position < width as i64
 }
 
 fn require(condition: bool, refusal: Refusal) -> Result<(), Refusal> {
@@ -35,12 +52,6 @@ fn require(condition: bool, refusal: Refusal) -> Result<(), Refusal> {
     } else {
         Err(refusal)
     }
-}
-
-/// The result, where it is a fixnum.
-fn sized(width: u64, result: i64, refusal: Refusal) -> Answer {
-    require(is_fixnum(width, result), refusal)?;
-    Ok((result, 0))
 }
 
 fn yes_or_no(yes: bool) -> Answer {

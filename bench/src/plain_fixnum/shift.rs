@@ -1,11 +1,11 @@
 //! The shifts.
 
-use super::{check, require, sized, Answer};
+use super::{check, is_position, require, Answer};
 use crate::binding::Refusal;
 
 pub fn shift(width: u64, x: i64, distance: i64) -> Answer {
     check(width, [x, distance])?;
-    require(distance.abs() < width as i64, Refusal::Domain)?;
+    require(distance.unsigned_abs() < width, Refusal::Domain)?;
     if distance < 0 {
         Ok((x >> -distance, 0))
     } else {
@@ -15,19 +15,18 @@ pub fn shift(width: u64, x: i64, distance: i64) -> Answer {
 
 pub fn shift_left(width: u64, x: i64, distance: i64) -> Answer {
     check(width, [x, distance])?;
-    require(0 <= distance && distance < width as i64, Refusal::Domain)?;
+    require(is_position(width, distance), Refusal::Domain)?;
     shifted_left(width, x, distance)
 }
 
 pub fn shift_right(width: u64, x: i64, distance: i64) -> Answer {
     check(width, [x, distance])?;
-    require(0 <= distance && distance < width as i64, Refusal::Domain)?;
+    require(is_position(width, distance), Refusal::Domain)?;
     Ok((x >> distance, 0))
 }
 
-/// Where bits are lost, the result shifted back is another number.
+/// The result is a fixnum where the bits that reach the place of the sign, or go beyond it, all equal the sign.
 fn shifted_left(width: u64, x: i64, distance: i64) -> Answer {
-    let result = x << distance;
-    require(result >> distance == x, Refusal::Size)?;
-    sized(width, result, Refusal::Size)
+    require(x >> (width - 1 - distance as u64) == x >> 63, Refusal::Size)?;
+    Ok((x << distance, 0))
 }
