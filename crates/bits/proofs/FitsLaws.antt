@@ -1,6 +1,6 @@
 -- Integers that fit a width: what an operation makes of them fits it too. Assumes nothing.
 use Prim.Native.Nat.{ℕ, zero, suc, _*_, _-_, _/_, _^_, _≤_, _<_}
-use native.Mathlib.Nat.{le-refl, le-trans, lt-of-lt-of-le, lt-of-le-of-lt, pow-suc, div-lt-iff-lt-mul}
+use native.Mathlib.Nat.{le-refl, le-trans, lt-of-lt-of-le, lt-of-le-of-lt, pow-suc, div-eq-of-lt, div-lt-iff-lt-mul}
 use native.Mathlib.Omega.{arith}
 use mathlib.Core.Path.{_≡_, refl, sym, ap, _∙_, subst}
 use mathlib.Core.Bool.{Bool, true, false}
@@ -15,7 +15,7 @@ use Rattle.bits.specs.Shift.{floorDiv, shiftRight}
 use Rattle.bits.specs.Division.{modℕ, «mod», div, div0, mod0}
 use Rattle.bits.specs.Field.{setField, bitField}
 use Rattle.bits.specs.Count.{onesBelow, ones, bitCount, firstTrue, firstBitSet}
-use Rattle.bits.proofs.IntegerLaws.{pos-sub-lt}
+use Rattle.bits.proofs.IntegerLaws.{subℕ-ge, pos-sub-lt}
 use Rattle.bits.proofs.TestbitLaws.{by-lt, cond-lt}
 use Rattle.bits.proofs.LengthLaws.{bitLength-le, fits-bits, fits-not}
 use Rattle.bits.proofs.LogicalLaws.{testbit-bitwise, isNegative-bitwise}
@@ -151,6 +151,14 @@ module _ (w : ℕ) where
       rw (half w h)
       (magnitude-fits (floorDiv y (2 ^ w))
       (rw (mag-floorDiv y (2 ^ w)) (div-lt-iff-lt-mul (pow-pos w) .1 (subst (λ (m : ℕ). mag y < 2 ^ (w - 1) * m) (sym (double w h)) l))))
+
+  -- the second is 0 where the integer fits
+  pub high-zero : (x : ℤ) → 0 < w → fits w x ≡ true → div0 x (pos (2 ^ w)) ≡ pos 0
+  unfolding div0 div floorDiv
+  high-zero (pos n) h f = ap pos (div-eq-of-lt (omega (arith, double w h, magnitude (pos n) f)))
+  high-zero (negsuc n) h f =
+      ap (λ (y : ℤ). floorDiv y (2 ^ w)) (subℕ-ge (2 ^ w / 2) (suc n) (omega (arith, double w h, magnitude (negsuc n) f)))
+      ∙ ap pos (div-eq-of-lt (omega (arith, pow-pos w)))
 
 -- ---- operations on bits
 

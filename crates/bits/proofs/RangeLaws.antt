@@ -1,6 +1,6 @@
 -- `within` is the order of the integers at both ends, each included: x is a plus a natural number, and b is x plus one. What a range says of its
 -- numbers; a field's start and end. Assumes nothing.
-use Prim.Native.Nat.{ℕ, zero, suc, _≤_}
+use Prim.Native.Nat.{ℕ, zero, zero-le, suc, _≤_}
 use mathlib.Core.Path.{_≡_, refl, sym, ap, ap₂, _∙_}
 use mathlib.Core.Bool.{Bool, true, false, _&&_}
 use native.Mathlib.Omega.{arith}
@@ -50,6 +50,13 @@ unfolding within
 within-both m (pos n) h = leb-true n m (both-right (leZ (negℤ (pos m)) (pos n)) (leb n m) h)
 within-both zero (negsuc n) h = let z : _≡_ {A = ℕ} 0 1 = cc in absurd (omega arith)
 within-both (suc m) (negsuc n) h = let l = leb-true n m (both-left (leb n m) true h) in omega arith
+
+pub both-within : (m : ℕ) (d : ℤ) → natAbs d ≤ m → within (negℤ (pos m)) d (pos m) ≡ true
+unfolding within
+both-within zero (pos n) h = ap₂ _&&_ (le-leb 0 n zero-le) (le-leb n 0 h)
+both-within zero (negsuc n) h = absurd (omega arith)
+both-within (suc m) (pos n) h = le-leb n (suc m) h
+both-within (suc m) (negsuc n) h = ap (λ (t : Bool). t && true) (le-leb n m (omega arith))
 
 -- the start and the end of a field, up to a last position
 pub within-field : (last : ℕ) (start end : ℤ) → within (pos 0) start (pos last) ≡ true → within start end (pos last) ≡ true

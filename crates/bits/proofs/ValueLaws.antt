@@ -1,7 +1,7 @@
 -- Bits and arithmetic: what the builders are worth, and the low bits of an integer as a remainder. Assumes nothing.
 use mathlib.Core.Path.{_≡_, refl, sym, _∙_, ap, ap₂, subst, fun-ext}
 use mathlib.Core.Bool.{Bool, true, false, not, cond, _&&_}
-use Prim.Native.Nat.{ℕ, zero, suc, _+_, _*_, _-_, _%_, _^_, _≤_, _<_}
+use Prim.Native.Nat.{ℕ, zero, suc, _+_, _*_, _-_, _/_, _%_, _^_, _≤_, _<_}
 use native.Mathlib.Nat.{pow-suc, mod-lt, zero-mod, lt-of-lt-of-le}
 use native.Mathlib.Omega.{arith}
 use lib.Arith.{mod-mul, digits-div, digits-mod}
@@ -13,7 +13,7 @@ use borrow.Author.Tests.{lt-ltb, not-false}
 use Rattle.bits.specs.Testbit.{isNegative, testbit, fits, fill, consBit, ofBits}
 use Rattle.bits.specs.Logical.{bitwiseNot, bitwiseAnd}
 use Rattle.bits.specs.Shift.{floorDiv, shiftRight}
-use Rattle.bits.specs.Division.{modℕ, «mod», mod0}
+use Rattle.bits.specs.Division.{div, modℕ, «mod», div0, mod0}
 use Rattle.bits.specs.Field.{bitField}
 use Rattle.bits.proofs.Booleans.{and-true, and-swap, not-not}
 use Rattle.bits.proofs.IntegerLaws.{pos-sub-lt}
@@ -180,6 +180,13 @@ testbit-mod0-pow zero x i h = absurd (omega arith)
 testbit-mod0-pow (suc w) x i h =
     mod0-bits w x i ∙ ap (λ (k : ℕ). cond (ltb i (suc w)) (testbit x i) (testbit x k)) (less-one w)
 
+-- so no other bits count
+pub mod0-pow-bits : (w : ℕ) (x y : ℤ) → 0 < w → ((i : ℕ) → i < w → testbit x i ≡ testbit y i) → mod0 x (pos (2 ^ w)) ≡ mod0 y (pos (2 ^ w))
+mod0-pow-bits w x y h e = testbit-ext λ i.
+    testbit-mod0-pow w x i h
+    ∙ by-lt (λ b. cond b (testbit x i) (testbit x (w - 1)) ≡ cond b (testbit y i) (testbit y (w - 1))) i w (e i) (λ l. e (w - 1) (omega arith))
+    ∙ sym (testbit-mod0-pow w y i h)
+
 pub mod0-pow-fits : (w : ℕ) (x : ℤ) → 0 < w → T (fits w (mod0 x (pos (2 ^ w))))
 unfolding fits
 mod0-pow-fits zero x h = absurd (omega arith)
@@ -195,3 +202,9 @@ mod0-pow-same w x h t = testbit-ext λ i.
     ∙ by-lt (λ b. cond b (testbit x i) (testbit x (w - 1)) ≡ testbit x i) i w (λ l. refl)
     (λ l. testbit-mag-lt x (w - 1) (ltb→lt (mag x) (2 ^ (w - 1)) t)
     ∙ sym (testbit-mag-lt x i (lt-of-lt-of-le (ltb→lt (mag x) (2 ^ (w - 1)) t) (pow-mono (omega arith)))))
+
+-- ---- div0 by 2^w: the bits from w on, after half of 2^w is added
+
+pub testbit-div0-pow : (w : ℕ) (x : ℤ) (i : ℕ) → testbit (div0 x (pos (2 ^ w))) i ≡ testbit (x +ℤ pos (2 ^ w / 2)) (w + i)
+unfolding div0 div shiftRight
+testbit-div0-pow w x i = testbit-shiftRight (x +ℤ pos (2 ^ w / 2)) w i

@@ -1,13 +1,13 @@
 -- One call at a width and at a wider one: its fixnums and its domains, the rows whose results do not look at the width, and what a done call has
 -- passed. Assumes nothing.
-use Prim.Native.Nat.{ℕ, zero, suc, zero-le, _+_, _-_, _≤_, _<_}
+use Prim.Native.Nat.{ℕ, zero, suc, _+_, _-_, _≤_, _<_}
 use native.Mathlib.Nat.{le-trans}
 use native.Mathlib.Omega.{arith}
 use mathlib.Core.Path.{_≡_, refl, sym, ap, ap₂, _∙_, subst}
 use mathlib.Core.Bool.{Bool, true, false, cond, not, _&&_, _||_, true≢false}
 use mathlib.Core.List.{List, [], _∷_}
 use lib.Dec.{eqb}
-use lib.IntN.{ℤ, pos, negsuc, negℤ, natAbs}
+use lib.IntN.{ℤ, pos, negsuc}
 use lib.Signed.{leZ}
 use borrow.Author.Tests.{leb-true, le-leb, eq-eqb, eqb-true, eqb-false}
 use Rattle.bits.specs.Range.{within}
@@ -15,7 +15,7 @@ use Rattle.bits.specs.Testbit.{fits}
 use Rattle.bits.proofs.Booleans.{both-left, both-right}
 use Rattle.bits.proofs.FitsLaws.{is-true, holds}
 use Rattle.bits.proofs.LengthLaws.{fits-mono}
-use Rattle.bits.proofs.RangeLaws.{within-both}
+use Rattle.bits.proofs.RangeLaws.{within-both, both-within}
 use Rattle.outcomes.specs.Outcome.{done, guard}
 use Rattle.outcomes.specs.Tests.{allHold}
 use Rattle.outcomes.proofs.OutcomeLaws.{passed}
@@ -32,13 +32,6 @@ use Rattle.fixnum_laws.specs.Widths.{isCarry}
 use Rattle.fixnum_laws.proofs.Stages.{stage, by-ways}
 
 -- ---- fixnums and domains
-
-both-within : (m : ℕ) (x : ℤ) → natAbs x ≤ m → within (negℤ (pos m)) x (pos m) ≡ true
-unfolding within
-both-within zero (pos n) h = ap₂ _&&_ (le-leb 0 n zero-le) (le-leb n 0 h)
-both-within zero (negsuc n) h = absurd (omega arith)
-both-within (suc m) (pos n) h = le-leb n (suc m) h
-both-within (suc m) (negsuc n) h = ap (λ (t : Bool). t && true) (le-leb n m (omega arith))
 
 module _ (v w : ℕ) (l : v ≤ w) where
   pub wider-fits : (x : ℤ) → fits v x ≡ true → fits w x ≡ true

@@ -1,7 +1,7 @@
 -- The two parts of an integer at a width, as codes 22 to 24 answer them: they make it, the second is 0 exactly where it is a fixnum, and those
 -- of a sum, a difference and a product of three fixnums are fixnums. Assumes nothing.
-use Prim.Native.Nat.{ℕ, suc, _+_, _*_, _-_, _/_, _≤_, _<_, _^_}
-use native.Mathlib.Nat.{le-suc, le-refl, mul-le-mul, div-eq-of-lt}
+use Prim.Native.Nat.{ℕ, _+_, _*_, _-_, _≤_, _<_, _^_}
+use native.Mathlib.Nat.{le-suc, le-refl, mul-le-mul}
 use native.Mathlib.Omega.{arith}
 use mathlib.Core.Path.{_≡_, sym, ap, _∙_, subst}
 use mathlib.Core.Bool.{true}
@@ -9,12 +9,9 @@ use lib.IntN.{ℤ, pos, negsuc, natAbs, _+ℤ_, _-ℤ_, _*ℤ_, +ℤ-idl, zero-*
 use lib.Pow.{pow-pos, pow-mono}
 use lib.Signed.{mag, natAbs-le}
 use Rattle.bits.specs.Testbit.{fits}
-use Rattle.bits.specs.Shift.{floorDiv}
-use Rattle.bits.specs.Division.{div, div0}
-use Rattle.bits.proofs.IntegerLaws.{subℕ-ge}
 use Rattle.bits.proofs.DivisionLaws.{div0-mod0}
 use Rattle.bits.proofs.ValueLaws.{mod0-pow-same}
-use Rattle.bits.proofs.FitsLaws.{holds, double, low-fits, high-fits}
+use Rattle.bits.proofs.FitsLaws.{holds, low-fits, high-fits, high-zero}
 use Rattle.words.proofs.WordLaws.{fits-mag}
 use Rattle.words.proofs.SignedLaws.{natAbs-add, natAbs-sub, natAbs-mul}
 use Rattle.fxtable.specs.Domains.{isWidth}
@@ -27,13 +24,6 @@ use Rattle.fxtable.proofs.CallLaws.{width-bounds}
 pub parts-whole : (w : ℕ) (s : ℤ) → (partsOf w s .1 *ℤ pos (2 ^ w)) +ℤ partsOf w s .0 ≡ s
 unfolding partsOf
 parts-whole w s = sym (div0-mod0 s (pos (2 ^ w)) (λ e. omega (arith, ap natAbs e, pow-pos w)))
-
-high-zero : (w : ℕ) (s : ℤ) → 0 < w → fits w s ≡ true → div0 s (pos (2 ^ w)) ≡ pos 0
-unfolding div0 div floorDiv
-high-zero w (pos n) p f = ap pos (div-eq-of-lt (omega (arith, double w p, fits-mag w (pos n) f)))
-high-zero w (negsuc n) p f =
-    ap (λ (y : ℤ). floorDiv y (2 ^ w)) (subℕ-ge (2 ^ w / 2) (suc n) (omega (arith, double w p, fits-mag w (negsuc n) f)))
-    ∙ ap pos (div-eq-of-lt (omega (arith, pow-pos w)))
 
 -- those of a fixnum, and what has such parts
 pub parts-small : (w : ℕ) (s : ℤ) → 0 < w → fits w s ≡ true → partsOf w s ≡ (s, pos 0)

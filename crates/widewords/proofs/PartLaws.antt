@@ -4,20 +4,18 @@ use Prim.Native.Nat.{ℕ, suc, _+_, _*_, _-_, _/_, _%_, _≤_, _<_, _^_}
 use native.Mathlib.Nat.{mod-lt}
 use native.Mathlib.Omega.{arith}
 use mathlib.Core.Path.{_≡_, sym, ap, ap₂, _∙_, subst}
-use mathlib.Core.Bool.{true, cond}
+use mathlib.Core.Bool.{true}
 use lib.Arith.{digits-div}
 use lib.Dec.{lit<}
 use lib.IntN.{ℤ, pos, negsuc, natAbs, _+ℤ_}
 use lib.Pow.{pow-pos, pow-add, split, high, low, mod-pow-add, shr-lt, shr-shr}
 use Rattle.bits.specs.Testbit.{testbit, fits}
-use Rattle.bits.specs.Shift.{shiftRight}
-use Rattle.bits.specs.Division.{div, modℕ, «mod», div0, mod0}
+use Rattle.bits.specs.Division.{modℕ, «mod», div0, mod0}
 use Rattle.bits.proofs.FitsLaws.{double, holds}
 use Rattle.bits.proofs.IntegerLaws.{pos-sub-lt}
 use Rattle.bits.proofs.DivisionLaws.{div0-mod0-low, div0-mod0-high}
 use Rattle.bits.proofs.ModLaws.{modℕ-add-l}
-use Rattle.bits.proofs.TestbitLaws.{by-lt, testbit-ext, testbit-shiftRight}
-use Rattle.bits.proofs.ValueLaws.{testbit-mod0-pow, mod0-pow-same}
+use Rattle.bits.proofs.ValueLaws.{mod0-pow-bits, mod0-pow-same, testbit-div0-pow}
 use Rattle.words.proofs.FieldWords.{testbit-modℕ-lt, testbit-mod-lt, testbit-div}
 use Rattle.widewords.specs.declared.double.Double.{Double}
 use Rattle.widewords.specs.Double.{doubleWord}
@@ -78,54 +76,41 @@ module _ (w : ℕ) (s : Double) (p : 1 ≤ w) (h : w ≤ 64) where
       ∙ ap (λ (m : ℕ). m % 2 ^ 64) (digits-div (s .high * 2 ^ k + q) (mod-lt (s .low) (pow-pos w)))
       ∙ moved q (shr-lt k w (subst (λ (j : ℕ). s .low < 2 ^ j) e l)))
 
--- ---- mod0 by 2^w looks at the low w bits only
-
-pub mod0-bits : (w : ℕ) (x y : ℤ) → 0 < w → ((i : ℕ) → i < w → testbit x i ≡ testbit y i) → mod0 x (pos (2 ^ w)) ≡ mod0 y (pos (2 ^ w))
-mod0-bits w x y h e = testbit-ext (λ i.
-    testbit-mod0-pow w x i h
-    ∙ by-lt (λ b. cond b (testbit x i) (testbit x (w - 1)) ≡ cond b (testbit y i) (testbit y (w - 1))) i w (e i) (λ l. e (w - 1) (omega arith))
-    ∙ sym (testbit-mod0-pow w y i h))
-
--- bit i of the rounded quotient
-testbit-div0 : (w : ℕ) (x : ℤ) (i : ℕ) → testbit (div0 x (pos (2 ^ w))) i ≡ testbit (x +ℤ pos (2 ^ w / 2)) (w + i)
-unfolding div0 div shiftRight
-testbit-div0 w x i = testbit-shiftRight (x +ℤ pos (2 ^ w / 2)) w i
-
 -- ---- the words say both parts
 
 module _ (w : ℕ) (p : 1 ≤ w) (h : w ≤ 64) where
   -- of two words s: the low part by the low word, and the high part by the quotient q of t, which is s and half of 2^w
   pub low-word : (s : Double) → s .low < 2 ^ 64 → mod0 (pos (s .low)) (pos (2 ^ w)) ≡ mod0 (pos (doubleWord s)) (pos (2 ^ w))
   unfolding doubleWord
-  low-word s l = mod0-bits w _ _ p (λ i k.
+  low-word s l = mod0-pow-bits w _ _ p (λ i k.
       ap (λ (n : ℕ). testbit (pos n) i) (sym (low (s .high) 64 l)) ∙ testbit-mod-lt (s .high * 2 ^ 64 + s .low) 64 i (omega arith))
 
   pub high-word : (n t q half : ℕ) → half ≡ 2 ^ (w - 1) → t ≡ modℕ (pos n +ℤ pos half) (2 ^ 128) → q ≡ t / 2 ^ w % 2 ^ 64
       → mod0 (pos q) (pos (2 ^ 64)) ≡ mod0 (div0 (pos n) (pos (2 ^ w))) (pos (2 ^ 64))
   high-word n t q half a b c =
       let e : half ≡ 2 ^ w / 2 = omega (arith, double w p) in
-      mod0-bits 64 _ _ (lit< tt) (λ i k.
+      mod0-pow-bits 64 _ _ (lit< tt) (λ i k.
       ap (λ (m : ℕ). testbit (pos m) i) c
       ∙ testbit-mod-lt (t / 2 ^ w) 64 i k
       ∙ testbit-div t w i
       ∙ ap (λ (m : ℕ). testbit (pos m) (w + i)) b
       ∙ testbit-modℕ-lt (pos n +ℤ pos half) 128 (w + i) (omega arith)
       ∙ ap (λ (m : ℕ). testbit (pos n +ℤ pos m) (w + i)) e
-      ∙ sym (testbit-div0 w (pos n) i))
+      ∙ sym (testbit-div0-pow w (pos n) i))
 
   -- of an integer s
   pub low-exact : (s : ℤ) → mod0 (pos (modℕ s (2 ^ 128))) (pos (2 ^ w)) ≡ mod0 s (pos (2 ^ w))
-  low-exact s = mod0-bits w _ _ p (λ i k. testbit-modℕ-lt s 128 i (omega arith))
+  low-exact s = mod0-pow-bits w _ _ p (λ i k. testbit-modℕ-lt s 128 i (omega arith))
 
   pub high-exact : (s : ℤ) → fits 64 (div0 s (pos (2 ^ w))) ≡ true
       → mod0 (div0 (pos (modℕ s (2 ^ 128))) (pos (2 ^ w))) (pos (2 ^ 64)) ≡ div0 s (pos (2 ^ w))
   high-exact s f =
-      mod0-bits 64 _ _ (lit< tt) (λ i k.
+      mod0-pow-bits 64 _ _ (lit< tt) (λ i k.
       let l : w + i < 128 = omega arith in
       let half = pos (2 ^ w / 2) in
-      testbit-div0 w (pos (modℕ s (2 ^ 128))) i
+      testbit-div0-pow w (pos (modℕ s (2 ^ 128))) i
       ∙ sym (testbit-modℕ-lt (pos (modℕ s (2 ^ 128)) +ℤ half) 128 (w + i) l)
       ∙ ap (λ (n : ℕ). testbit (pos n) (w + i)) (modℕ-add-l s half (2 ^ 128) (pow-pos 128))
       ∙ testbit-modℕ-lt (s +ℤ half) 128 (w + i) l
-      ∙ sym (testbit-div0 w s i))
+      ∙ sym (testbit-div0-pow w s i))
       ∙ mod0-pow-same 64 (div0 s (pos (2 ^ w))) (lit< tt) (holds f)

@@ -1,5 +1,5 @@
 //! The carry operations a second time. Both results together are the exact sum, and the low one is a fixnum: at width 64
-//! it is the sum taken around the word, by the machine's wrapping operations.
+//! it is what the machine's wrapping operations give.
 
 use super::{any_size, call};
 use crate::fixnum_arguments::{numbers, random_width};
@@ -17,7 +17,7 @@ fn exact(code: u64, [x, y, z]: [i64; 3]) -> i128 {
     }
 }
 
-fn around_the_word(code: u64, [x, y, z]: [i64; 3]) -> i64 {
+fn wrapped(code: u64, [x, y, z]: [i64; 3]) -> i64 {
     match code {
         22 => x.wrapping_add(y).wrapping_add(z),
         23 => x.wrapping_sub(y).wrapping_sub(z),
@@ -33,7 +33,7 @@ fn check(width: u64, args: [i64; 3]) {
         assert_eq!((refusal, i128::from(low) + i128::from(carry) * (1 << width)), (0, exact(code, args)), "{text}");
         assert!(is_fixnum(width, i128::from(low)) && is_fixnum(width, i128::from(carry)), "{text}");
         if width == 64 {
-            assert_eq!(low, around_the_word(code, args), "{text}");
+            assert_eq!(low, wrapped(code, args), "{text}");
         }
     }
 }

@@ -2,7 +2,6 @@
 use native.Mathlib.Omega.{arith}
 use mathlib.Core.Path.{refl}
 use Rattle.widewords.proofs.DoubleLaws.{carry-word}
-use borrow.Author.Needs.{needs}
 use Rattle.widewords.proofs.double.carries.Statement.{statement}
 use Rattle.widewords.proofs.double.carries.Tie as tie
 
