@@ -1,5 +1,6 @@
 /* Quebralua: the R6RS fixnum operations at any width from 24 to 64, the R6RS bitwise operations on integers in 32-bit
-   limbs, and the conversions between the two. Link libquebralua.a, which `rt staticlib quebralua` writes.
+   limbs, the conversions between the two, and the running fold that makes an identifier of bytes. Link libquebralua.a,
+   which `rt staticlib quebralua` writes.
 
    Every call returns, whatever numbers come in. An answer begins with a refusal number:
 
@@ -7,27 +8,30 @@
      1  the width is below 24 or above 64
      2  the code is not 1 to 41
      3  the argument count is not allowed for the code
-     4  a counted argument, or the number to convert, is not a fixnum at the width; never at width 64, where each
-        int64_t is one
+     4  a counted argument, the number to convert, the accumulator or a piece is not a fixnum at the width; never at
+        width 64, where each int64_t is one
      5  a divisor, position, field, distance, count or new bit is outside its domain;
         or the exact result of fx- is not a fixnum
      6  the exact result is not a fixnum, or a shift's result would have more than 1,024 limbs
      7  an operand has no limb, or more than 1,024
      8  the result is longer than the capacity of the output buffer
+     9  the fold is not open
 
    The first that holds is given, in this order: fixnum calls 1, 2, 3, 4, 5, 6; limb calls 7, 5, 6, 8; limbs to fixnum
-   1, 7, 6; fixnum to limbs 1, 4, 8. A refused call answers 0 for every result and length, and writes no limb of the
-   output buffer.
+   1, 7, 6; fixnum to limbs 1, 4, 8; opening a fold 1, 4, 5; its other calls 9, 4. A refused call answers 0 for every
+   result and length, and writes no limb of the output buffer. It leaves a fold as it was, unless it is an opening.
 
    The `place` of a fixnum answer says which argument refusal 4 or 5 is about, 1 for a to 4 for d. For 4 it is the first
    counted argument that is not a fixnum; for 5 the first, left to right, that is outside its domain, given those before
-   it: an end is tested against the start. It is 0 in every other answer, and where 5 is about the result of fx-.
+   it: an end is tested against the start. It is 0 in every other answer, and where 5 is about the result of fx-. The
+   `place` of an opening is that of its fxrotate-bit-field: accumulator 1, start 2, end 3, count 4.
 
    What a caller owes:
-   - Each operand pointer is valid for reading its length in limbs, and `out` for writing `nout` limbs. NULL is fine
-     where the length is 0.
-   - The output buffer overlaps no operand. Operands may overlap each other.
-   - No other thread writes these limbs during the call. The library keeps no state and no pointer between calls. */
+   - Each operand pointer is valid for reading its length in limbs, or in bytes for a chunk, and `out` for writing `nout`
+     limbs. NULL is fine where the length is 0. A `ql_fold *` is never NULL.
+   - The output buffer overlaps no operand, and a fold none of the bytes of its chunk. Operands may overlap each other.
+   - No other thread writes these limbs, bytes or folds during the call, nor reads a fold that the call changes. The
+     library keeps no state and no pointer between calls. */
 
 #ifndef QUEBRALUA_H
 #define QUEBRALUA_H
@@ -148,6 +152,28 @@ ql_value ql_limbs_to_fixnum(uint64_t width, const uint32_t *x, size_t nx);
 
 /* The fixnum n at the width, written as limbs. */
 ql_written ql_fixnum_to_limbs(uint64_t width, int64_t n, uint32_t *out, size_t nout, uint64_t first);
+
+/* The running fold.
+
+   The record is the caller's. For each byte the accumulator is rotated by `count` in its field from `start` up to, but
+   not at, `end` (code 40), and then xored with the byte (code 28), which is from 0 to 255. It does not matter how the
+   bytes are cut into chunks. A record is open where opening with its own five fields would be done, whoever filled it
+   in; the other calls refuse one that is not open with 9. */
+typedef struct { uint64_t width; int64_t start; int64_t end; int64_t count; int64_t accumulator; } ql_fold;
+typedef struct { uint64_t refusal; uint64_t place; } ql_opened;
+
+/* Fills in the record, whatever was in it. A refused opening fills it with zeros, and so it is not open. */
+ql_opened ql_fold_open(ql_fold *fold, uint64_t width, int64_t start, int64_t end, int64_t count, int64_t accumulator);
+
+/* Folds n bytes, or none, into the accumulator. Returns the refusal number: 0 or 9. */
+uint64_t ql_fold_chunk(ql_fold *fold, const uint8_t *bytes, size_t n);
+
+/* The accumulator. */
+ql_value ql_fold_read(const ql_fold *fold);
+
+/* As if n more bytes had been folded, of which only `piece` is known: what they give in a fold of the same settings that
+   was opened with accumulator 0. So pieces may be folded side by side. Returns the refusal number: 0, 4 or 9. */
+uint64_t ql_fold_join(ql_fold *fold, int64_t piece, uint64_t n);
 
 #ifdef __cplusplus
 }

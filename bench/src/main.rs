@@ -6,12 +6,15 @@
 mod binding;
 mod fixnum_calls;
 mod fixnum_case;
+mod fold_case;
+mod fold_compare;
 mod gmp;
 mod gmp_calls;
 mod inputs;
 mod limb_calls;
 mod limb_case;
 mod plain_fixnum;
+mod plain_fold;
 mod plain_limbs;
 mod random;
 mod tables;
@@ -19,6 +22,7 @@ mod timing;
 
 use std::rc::Rc;
 
+use fold_case::FoldCases;
 use random::Random;
 use tables::LimbCases;
 
@@ -31,9 +35,11 @@ fn main() {
     let mut random = Random::new(SEED);
     let mut limbs = limb_cases(&mut random);
     let mut fixnums = fixnum_case::cases(&mut random);
+    let mut folds = fold_case::cases(&mut random);
     for _ in 0..SWEEPS {
         let lengths = [&mut limbs.one, &mut limbs.medium, &mut limbs.long, &mut limbs.short_results];
-        for case in lengths.into_iter().flatten().chain(fixnums.iter_mut().map(|row| &mut row.case)) {
+        let fixnums = fixnums.iter_mut().map(|row| &mut row.case);
+        for case in lengths.into_iter().flatten().chain(fixnums).chain(folds.iter_mut().flat_map(FoldCases::all)) {
             case.measure();
         }
     }
@@ -41,7 +47,9 @@ fn main() {
     println!();
     tables::fixnums(&fixnums);
     println!();
-    tables::aims(&limbs, &fixnums);
+    tables::folds(&folds);
+    println!();
+    tables::aims(&limbs, &fixnums, &folds);
 }
 
 fn limb_cases(random: &mut Random) -> LimbCases {

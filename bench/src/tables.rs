@@ -1,6 +1,7 @@
 //! The tables, in Markdown.
 
 use crate::fixnum_case::FixnumCase;
+use crate::fold_case::{FoldCases, LONGEST};
 use crate::timing::Case;
 
 /// The cases of the limb calls, in the same order at each length.
@@ -31,6 +32,9 @@ const LIMB_AIM_CALLS: [&str; 11] = [
 /// How many times plain Rust's time a fixnum call may take.
 const FIXNUM_AIM: f64 = 3.0;
 
+/// How many times plain Rust's time a chunk may take.
+const FOLD_AIM: f64 = 1.2;
+
 pub fn limbs(cases: &LimbCases) {
     println!("### Limb calls\n");
     println!("| Limb call | GMP, 1 limb | GMP, 32 | GMP, 1,024 | Rust, 1 limb | Rust, 32 | Rust, 1,024 | Growth |");
@@ -55,7 +59,21 @@ pub fn fixnums(cases: &[FixnumCase]) {
     }
 }
 
-pub fn aims(limbs: &LimbCases, fixnums: &[FixnumCase]) {
+pub fn folds(rows: &[FoldCases]) {
+    println!("### The running fold\n");
+    println!(
+        "| Width | Rust, no bytes | Rust, 16 | Rust, 256 | Rust, 4,096 | Rust, 1,048,576 | Rust unchecked, 16 | Rust, join | \
+         Code 40, no bytes | Million bytes a second |"
+    );
+    println!("|--:|--:|--:|--:|--:|--:|--:|--:|--:|--:|");
+    for FoldCases { width, chunks, trusting, check, join } in rows {
+        let beside = chunks.iter().chain([trusting, join, check]).map(|case| fine(case.over_plain()));
+        let rate = 1e3 * LONGEST as f64 / chunks[chunks.len() - 1].nanoseconds();
+        println!("| {width} | {} | {rate:.0} |", beside.collect::<Vec<_>>().join(" | "));
+    }
+}
+
+pub fn aims(limbs: &LimbCases, fixnums: &[FixnumCase], folds: &[FoldCases]) {
     let fixnums = fixnums.iter().map(|row| &row.case);
     let aimed = || limbs.long.iter().filter(|case| LIMB_AIM_CALLS.contains(&case.name.as_str()));
     let gmp = |case: &Case| case.over_gmp().unwrap_or(f64::INFINITY);
@@ -68,12 +86,20 @@ pub fn aims(limbs: &LimbCases, fixnums: &[FixnumCase]) {
     println!("| The same: within 2 times plain Rust | {} |", missed(aimed(), Case::over_plain, LIMB_AIM));
     println!("| The same: within 2 times one of the two | {} |", missed(aimed(), least, LIMB_AIM));
     println!("| Fixnum calls: within 3 times plain Rust | {} |", missed(fixnums, Case::over_plain, FIXNUM_AIM));
+    // The check of the record hardly counts in the last two sizes, so there the aim is about the loop.
+    let long = folds.iter().flat_map(|row| &row.chunks[3..]);
+    let short = folds.iter().flat_map(|row| &row.chunks[1..3]);
+    println!(
+        "| Chunks of 4,096 bytes or more: within 1.2 times plain Rust | {} |",
+        missed(long, Case::over_plain, FOLD_AIM)
+    );
+    println!("| Chunks of 16 and 256 bytes: the same | {} |", missed(short, Case::over_plain, FOLD_AIM));
 }
 
 /// The cases above the aim, each with its ratio.
 fn missed<'a>(cases: impl Iterator<Item = &'a Case>, of: impl Fn(&Case) -> f64, aim: f64) -> String {
     let misses: Vec<String> =
-        cases.filter(|case| of(case) > aim).map(|case| format!("{} {}", case.name, ratio(of(case)))).collect();
+        cases.filter(|case| of(case) > aim).map(|case| format!("{} {}", case.name, fine(of(case)))).collect();
     if misses.is_empty() {
         "none".to_string()
     } else {
@@ -91,4 +117,8 @@ fn ratio(value: f64) -> String {
     } else {
         format!("{value:.1}")
     }
+}
+
+fn fine(value: f64) -> String {
+    format!("{value:.2}")
 }

@@ -58,11 +58,17 @@ pub struct Case {
     ours: Side,
     gmp: Option<Side>,
     plain: Side,
+    rounds: usize,
 }
 
 impl Case {
     pub fn new(name: &str, ours: Side, gmp: Option<Side>, plain: Side) -> Case {
-        Case { name: name.to_string(), ours, gmp, plain }
+        Case { name: name.to_string(), ours, gmp, plain, rounds: ROUNDS }
+    }
+
+    /// The same with another number of rounds in a sweep.
+    pub fn with_rounds(self, rounds: usize) -> Case {
+        Case { rounds, ..self }
     }
 
     /// Measures all sides in turn, and keeps the least times.
@@ -72,7 +78,7 @@ impl Case {
         for side in &mut sides {
             side.calibrate();
         }
-        for _ in 0..ROUNDS {
+        for _ in 0..self.rounds {
             for side in &mut sides {
                 side.round();
             }
@@ -85,6 +91,11 @@ impl Case {
 
     pub fn over_plain(&self) -> f64 {
         self.ours.least / self.plain.least
+    }
+
+    /// Our time for one call.
+    pub fn nanoseconds(&self) -> f64 {
+        self.ours.least
     }
 
     /// Our time here over our time in another case.

@@ -16,6 +16,7 @@ pub enum Refusal {
     Size = 6,
     Operand = 7,
     Room = 8,
+    Unopened = 9,
 }
 
 /// The answer of a fixnum call. Refusal 0 is done; an operation with one result has 0 in `second`. The place is that of
@@ -55,21 +56,69 @@ pub struct Value {
     pub value: i64,
 }
 
+/// A running fold, which makes an identifier of bytes that come in chunks: for each byte the accumulator is rotated, as
+/// fxrotate-bit-field does by this field and count, and then xored with the byte. However the same bytes are cut, empty
+/// chunks among them, the identifier is the same.
+///
+/// ```ignore
+/// let mut fold = Fold::new(61, 0, 60, 7, 0)?;
+/// fold.chunk(b"Quebra").result()?;
+/// fold.chunk(b"lua").result()?;
+/// let identifier = fold.read().result()?;
+/// ```
+///
+/// The record is plain numbers: a copy of it is a fold of its own, and it may be stored and read back. Where its own
+/// fields could not be opened, it is unopened: `chunk`, `read` and `join` are refused with `Unopened`, and change
+/// nothing. The default record, which is zero, is unopened.
+#[derive(Clone, Copy, Debug, Default, PartialEq, Eq)]
+#[repr(C)]
+pub struct Fold {
+    pub width: u64,
+    pub start: i64,
+    pub end: i64,
+    pub count: i64,
+    pub accumulator: i64,
+}
+
+/// The answer of an opening. Refusal 0 is done. The place is that of `FixnumRefusal`, counted as accumulator 1, start 2,
+/// end 3, count 4, or 0 for none.
+#[derive(Clone, Copy, Debug, PartialEq, Eq)]
+#[repr(C)]
+#[must_use]
+pub struct Opened {
+    pub refusal: u64,
+    pub place: u64,
+}
+
+/// The answer of a call that changes a fold. Refusal 0 is done.
+#[derive(Clone, Copy, Debug, PartialEq, Eq)]
+#[repr(transparent)]
+#[must_use]
+pub struct Folded {
+    pub refusal: u64,
+}
+
 impl Refusal {
-    /// The refusal with this number, which is 1 to 8.
+    /// The refusal with this number, which is 1 to 9.
     fn from_number(number: u64) -> Refusal {
         use Refusal::*;
-        let all = [Width, Code, ArgumentCount, NotFixnum, Domain, Size, Operand, Room];
+        let all = [Width, Code, ArgumentCount, NotFixnum, Domain, Size, Operand, Room, Unopened];
         all[number as usize - 1]
+    }
+}
+
+impl FixnumRefusal {
+    /// The refusal with this number, which is 1 to 9, and this place, or none if it is 0.
+    fn from_numbers(number: u64, place: u64) -> FixnumRefusal {
+        FixnumRefusal { refusal: Refusal::from_number(number), place: (place != 0).then_some(place) }
     }
 }
 
 impl FixnumAnswer {
     pub fn result(self) -> Result<(i64, i64), FixnumRefusal> {
-        let place = (self.place != 0).then_some(self.place);
         match self.refusal {
             0 => Ok((self.first, self.second)),
-            number => Err(FixnumRefusal { refusal: Refusal::from_number(number), place }),
+            number => Err(FixnumRefusal::from_numbers(number, self.place)),
         }
     }
 }
@@ -96,6 +145,63 @@ impl Value {
             0 => Ok(self.value),
             number => Err(Refusal::from_number(number)),
         }
+    }
+}
+
+impl Opened {
+    pub fn result(self) -> Result<(), FixnumRefusal> {
+        match self.refusal {
+            0 => Ok(()),
+            number => Err(FixnumRefusal::from_numbers(number, self.place)),
+        }
+    }
+}
+
+impl Folded {
+    pub fn result(self) -> Result<(), Refusal> {
+        match self.refusal {
+            0 => Ok(()),
+            number => Err(Refusal::from_number(number)),
+        }
+    }
+}
+
+impl Fold {
+    /// A fold that is open, from this accumulator.
+    pub fn new(width: u64, start: i64, end: i64, count: i64, accumulator: i64) -> Result<Fold, FixnumRefusal> {
+        let mut fold = Fold::default();
+        fold.open(width, start, end, count, accumulator).result()?;
+        Ok(fold)
+    }
+
+    /// Starts afresh, whatever the record held. It is refused where fxrotate-bit-field would be, on the accumulator with
+    /// this field and count. A refused opening makes the whole record zero, also one that was open.
+    pub fn open(&mut self, width: u64, start: i64, end: i64, count: i64, accumulator: i64) -> Opened {
+        unsafe { ql_fold_open(self, width, start, end, count, accumulator) }
+    }
+
+    /// Folds the bytes, first to last. There may be none.
+    pub fn chunk(&mut self, bytes: &[u8]) -> Folded {
+        unsafe { ql_fold_chunk(self, read(bytes), bytes.len()) }
+    }
+
+    /// The accumulator.
+    pub fn read(&self) -> Value {
+        unsafe { ql_fold_read(self) }
+    }
+
+    /// Goes on as if `n` bytes had been folded, of which only `piece` is needed: what they come to by themselves, with
+    /// the same settings from 0. So the parts of long data can be folded side by side, and joined in their order.
+    ///
+    /// ```ignore
+    /// let mut part = Fold { accumulator: 0, ..fold };
+    /// part.chunk(bytes).result()?;
+    /// fold.join(part.read().result()?, bytes.len() as u64).result()?;
+    /// ```
+    ///
+    /// Refused with `NotFixnum` where `piece` is no fixnum at the fold's width.
+    pub fn join(&mut self, piece: i64, n: u64) -> Folded {
+        unsafe { ql_fold_join(self, piece, n) }
     }
 }
 
@@ -181,11 +287,11 @@ pub fn fixnum_to_limbs(width: u64, n: i64, out: &mut [u32], first: u64) -> Writt
     unsafe { ql_fixnum_to_limbs(width, n, write(out), out.len(), first) }
 }
 
-fn read(limbs: &[u32]) -> In {
-    if limbs.is_empty() {
+fn read<T>(items: &[T]) -> *const T {
+    if items.is_empty() {
         std::ptr::null()
     } else {
-        limbs.as_ptr()
+        items.as_ptr()
     }
 }
 
@@ -255,4 +361,8 @@ extern "C" {
     fn ql_bitwise_bit_set(x: In, nx: usize, position: i64) -> Value;
     fn ql_limbs_to_fixnum(width: u64, x: In, nx: usize) -> Value;
     fn ql_fixnum_to_limbs(width: u64, n: i64, out: Out, nout: usize, first: u64) -> Written;
+    fn ql_fold_open(fold: &mut Fold, width: u64, start: i64, end: i64, count: i64, accumulator: i64) -> Opened;
+    fn ql_fold_chunk(fold: &mut Fold, bytes: *const u8, n: usize) -> Folded;
+    fn ql_fold_read(fold: &Fold) -> Value;
+    fn ql_fold_join(fold: &mut Fold, piece: i64, n: u64) -> Folded;
 }

@@ -2,6 +2,7 @@
 
 use crate::operation::Operation;
 use crate::reference::{conversion, limbs};
+use std::fmt::LowerHex;
 
 #[derive(Clone, Copy, Debug)]
 pub struct FixnumCall {
@@ -74,7 +75,7 @@ impl<'a> LimbCall<'a> {
         let mut arrays = String::new();
         let mut operands = Vec::new();
         for (name, limbs) in ["x", "y", "z"].iter().zip(self.taken_operands()) {
-            arrays += &c_array(name, limbs);
+            arrays += &c_array("uint32_t", name, limbs);
             operands.push(c_pointer(name, limbs));
         }
         let mut args: Vec<String> = Vec::new();
@@ -87,7 +88,7 @@ impl<'a> LimbCall<'a> {
         match output {
             _ if !self.operation.writes() => {}
             Some(output) => {
-                arrays += &c_array("out", &output.limbs);
+                arrays += &c_array("uint32_t", "out", &output.limbs);
                 args.extend([c_pointer("out", &output.limbs), c_unsigned(output.first)]);
             }
             None => {
@@ -108,7 +109,7 @@ impl FixnumCall {
     }
 }
 
-fn c_unsigned(n: u64) -> String {
+pub(crate) fn c_unsigned(n: u64) -> String {
     if n > i64::MAX as u64 {
         format!("{n}u")
     } else {
@@ -116,7 +117,7 @@ fn c_unsigned(n: u64) -> String {
     }
 }
 
-fn c_signed(n: i64) -> String {
+pub(crate) fn c_signed(n: i64) -> String {
     if n == i64::MIN {
         "INT64_MIN".to_string()
     } else {
@@ -125,18 +126,18 @@ fn c_signed(n: i64) -> String {
 }
 
 /// The declaration of an array; nothing for an empty one, which is passed as NULL.
-fn c_array(name: &str, limbs: &[u32]) -> String {
-    if limbs.is_empty() {
+pub(crate) fn c_array<T: LowerHex>(kind: &str, name: &str, items: &[T]) -> String {
+    if items.is_empty() {
         return String::new();
     }
-    let list: Vec<String> = limbs.iter().map(|limb| format!("{limb:#x}")).collect();
-    format!("uint32_t {name}[{}] = {{{}}};\n", limbs.len(), list.join(", "))
+    let list: Vec<String> = items.iter().map(|item| format!("{item:#x}")).collect();
+    format!("{kind} {name}[{}] = {{{}}};\n", items.len(), list.join(", "))
 }
 
-fn c_pointer(name: &str, limbs: &[u32]) -> String {
-    if limbs.is_empty() {
+pub(crate) fn c_pointer<T>(name: &str, items: &[T]) -> String {
+    if items.is_empty() {
         "NULL, 0".to_string()
     } else {
-        format!("{name}, {}", limbs.len())
+        format!("{name}, {}", items.len())
     }
 }

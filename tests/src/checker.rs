@@ -145,13 +145,18 @@ impl Checker {
         self.write(call, shape);
     }
 
+    /// Whether what a call may change stands between guards, and has no allocation of its own.
+    pub fn has_guards(&self) -> bool {
+        self.guard > 0
+    }
+
     /// Whether an edge is to be compared, where not all of them are.
     pub fn is_chosen(&mut self) -> bool {
         self.edges_every == 1 || self.random.one_in(self.edges_every)
     }
 
     /// Counts a call that is about to be made, and prints it if that was asked for.
-    fn begin(&mut self, call: impl FnOnce() -> String) {
+    pub fn begin(&mut self, call: impl FnOnce() -> String) {
         self.made += 1;
         if self.trace {
             println!("{}", call());

@@ -1,7 +1,9 @@
 //! At which widths each operation that takes one was seen done. Every accepted width has to come for each of them.
 
 use quebralua_reference::call::{FixnumCall, LimbCall};
+use quebralua_reference::fold_call::{FoldCall, FoldOperation};
 use quebralua_reference::operation::{Operation, FIXNUM_NAMES};
+use quebralua_reference::reference::fold::Fold;
 use quebralua_reference::reference::width::WIDTHS;
 use std::fmt;
 
@@ -15,11 +17,17 @@ pub struct DoneWidths {
     fixnum: [Counts; FIXNUM_NAMES.len()],
     /// In the order of `Operation::ALL`; those without a width stay empty.
     limbs: [Counts; Operation::ALL.len()],
+    /// In the order of `FoldOperation::ALL`.
+    folds: [Counts; FoldOperation::ALL.len()],
 }
 
 impl DoneWidths {
     pub fn new() -> DoneWidths {
-        DoneWidths { fixnum: [NONE; FIXNUM_NAMES.len()], limbs: [NONE; Operation::ALL.len()] }
+        DoneWidths {
+            fixnum: [NONE; FIXNUM_NAMES.len()],
+            limbs: [NONE; Operation::ALL.len()],
+            folds: [NONE; FoldOperation::ALL.len()],
+        }
     }
 
     pub fn fixnum(&mut self, call: &FixnumCall) {
@@ -30,6 +38,10 @@ impl DoneWidths {
         if call.operation.takes_width() {
             self.limbs[call.operation as usize][call.width as usize] += 1;
         }
+    }
+
+    pub fn fold(&mut self, record: &Fold, call: &FoldCall) {
+        self.folds[call.operation() as usize][call.width(record) as usize] += 1;
     }
 
     /// Every operation and accepted width without a done call.
@@ -43,7 +55,9 @@ impl DoneWidths {
     fn rows(&self) -> impl Iterator<Item = (&str, &Counts)> {
         let fixnum = FIXNUM_NAMES.iter().copied().zip(&self.fixnum);
         let limbs = Operation::ALL.into_iter().zip(&self.limbs).filter(|(operation, _)| operation.takes_width());
-        fixnum.chain(limbs.map(|(operation, counts)| (operation.name(), counts)))
+        let folds = FoldOperation::ALL.into_iter().zip(&self.folds);
+        let limbs = limbs.map(|(operation, counts)| (operation.name(), counts));
+        fixnum.chain(limbs).chain(folds.map(|(operation, counts)| (operation.name(), counts)))
     }
 }
 

@@ -5,6 +5,7 @@ pub mod batch;
 pub mod call;
 pub mod fixnum_answers;
 pub mod fixnum_arguments;
+pub mod fold_call;
 pub mod operation;
 pub mod random;
 pub mod random_arguments;

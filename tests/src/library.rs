@@ -2,7 +2,9 @@
 
 use crate::binding::*;
 use quebralua_reference::call::{FixnumCall, LimbCall};
+use quebralua_reference::fold_call::{FoldAnswer, FoldCall};
 use quebralua_reference::operation::Operation::*;
+use quebralua_reference::reference::fold as reference;
 
 pub fn call_fixnum(call: &FixnumCall) -> FixnumAnswer {
     fixnum(call.width, call.code, call.count, call.args)
@@ -40,4 +42,33 @@ pub fn call_value(call: &LimbCall) -> Value {
         LimbsToFixnum => limbs_to_fixnum(call.width, x),
         operation => unreachable!("{operation:?} writes limbs"),
     }
+}
+
+pub fn call_fold(fold: &mut Fold, call: &FoldCall) -> FoldAnswer {
+    let (refusal, place, value) = match *call {
+        FoldCall::Open(settings) => {
+            let reference::Fold { width, start, end, count, accumulator } = settings;
+            let opened = fold.open(width, start, end, count, accumulator);
+            (opened.refusal, opened.place, 0)
+        }
+        FoldCall::Chunk(bytes) => (fold.chunk(bytes).refusal, 0, 0),
+        FoldCall::Read => {
+            let read = fold.read();
+            (read.refusal, 0, read.value)
+        }
+        FoldCall::Join { piece, n } => (fold.join(piece, n).refusal, 0, 0),
+    };
+    FoldAnswer { refusal, place, value }
+}
+
+/// The record of the C library that holds these numbers.
+pub fn c_fold(fold: &reference::Fold) -> Fold {
+    let reference::Fold { width, start, end, count, accumulator } = *fold;
+    Fold { width, start, end, count, accumulator }
+}
+
+/// What the record of the C library holds.
+pub fn plain_fold(fold: &Fold) -> reference::Fold {
+    let Fold { width, start, end, count, accumulator } = *fold;
+    reference::Fold { width, start, end, count, accumulator }
 }

@@ -1,6 +1,7 @@
-//! Compares the C library with the second implementation: every edge of the rules, random calls, and lists of calls. Then
-//! compares the library's answers at each width with those at the greater ones.
-//! Ends with status 1 at the first difference, and where some operation, width, refusal or place was never seen.
+//! Compares the C library with the second implementation: every edge of the rules, random calls, lists of calls, and
+//! folds. Then compares the library's answers with each other: at each width with those at the greater ones, and folds by
+//! their laws. Ends with status 1 at the first difference, and where some operation, width, refusal, place, case of a
+//! fold or law was never seen.
 
 mod agreement;
 mod binding;
@@ -9,6 +10,9 @@ mod checker;
 mod combinations;
 mod done_widths;
 mod edges;
+mod fold_cases;
+mod fold_checker;
+mod folds;
 mod library;
 mod lists;
 mod options;
@@ -39,8 +43,10 @@ fn main() {
     phase(&mut checker, "random calls", |checker| random_calls::run(checker, options.calls));
     phase(&mut checker, "lists of rotate and reverse calls", |checker| lists::run(checker, options.lists));
     let agreement = phase(&mut checker, "widths that agree", |checker| agreement::run(checker, options.calls / 20));
-    println!("{agreement}\n\n{}", checker.tally);
-    let missing = [checker.tally.missing(), agreement.missing()].concat();
+    phase(&mut checker, "edges of the folds", edges::folds);
+    let laws = phase(&mut checker, "random folds, and their laws", |checker| folds::run(checker, options.folds));
+    println!("{agreement}\n{laws}\n\n{}", checker.tally);
+    let missing = [checker.tally.missing(), agreement.missing(), laws.missing()].concat();
     if !missing.is_empty() {
         println!("NOT SEEN\n{}", missing.join("\n"));
         exit(1);

@@ -3,18 +3,21 @@
 use quebralua_reference::random::clock;
 
 pub const USAGE: &str = "\
-usage: quebralua-tests [--seed N] [--calls N] [--lists N] [--edges-every N] [--no-guards] [--trace]
+usage: quebralua-tests [--seed N] [--calls N] [--lists N] [--folds N] [--edges-every N] [--no-guards] [--trace]
   --seed N         the seed of every random choice (default: from the clock); it is printed
   --calls N        how many random calls, and a twentieth as many at every width (default 2000000)
   --lists N        how many random lists of fixnum rotations and reversals, and four times fewer of limbs (default 20000)
+  --folds N        how many random folds at each width, and as many of each of their laws (default 500)
   --edges-every N  makes one of N edge calls, chosen at random (default 1: all of them)
-  --no-guards      gives each output buffer an allocation of its own, without guard limbs, for a memory checker
+  --no-guards      gives each output buffer, record and chunk an allocation of its own, without guards, for a memory
+                   checker
   --trace          prints each call before it is made, so that the last one shows where a run broke off";
 
 pub struct Options {
     pub seed: u64,
     pub calls: u64,
     pub lists: u64,
+    pub folds: u64,
     pub edges_every: u64,
     pub no_guards: bool,
     pub trace: bool,
@@ -22,7 +25,15 @@ pub struct Options {
 
 impl Options {
     fn default() -> Options {
-        Options { seed: clock(), calls: 2_000_000, lists: 20_000, edges_every: 1, no_guards: false, trace: false }
+        Options {
+            seed: clock(),
+            calls: 2_000_000,
+            lists: 20_000,
+            folds: 500,
+            edges_every: 1,
+            no_guards: false,
+            trace: false,
+        }
     }
 
     pub fn parse(mut args: impl Iterator<Item = String>) -> Result<Options, String> {
@@ -32,6 +43,7 @@ impl Options {
                 "--seed" => &mut options.seed,
                 "--calls" => &mut options.calls,
                 "--lists" => &mut options.lists,
+                "--folds" => &mut options.folds,
                 "--edges-every" => &mut options.edges_every,
                 "--no-guards" => {
                     options.no_guards = true;

@@ -17,3 +17,5 @@ pub const SIZE: u64 = 6;
 pub const OPERAND: u64 = 7;
 /// The shortest result is longer than the capacity.
 pub const ROOM: u64 = 8;
+/// The record of a fold is unopened: opening with its own fields would be refused.
+pub const UNOPENED: u64 = 9;

@@ -1,28 +1,42 @@
 //! How many calls of each operation were compared, and how they were answered.
 
 use crate::done_widths::DoneWidths;
+use crate::fold_cases::FoldCases;
 use quebralua_reference::call::{FixnumCall, LimbCall};
 use quebralua_reference::fixnum_answers::fixnum_answers;
+use quebralua_reference::fold_call::{FoldAnswer, FoldCall, FoldOperation};
 use quebralua_reference::operation::{Operation, FIXNUM_NAMES};
+use quebralua_reference::reference::fold::Fold;
 use quebralua_reference::refusal::DONE;
 use std::fmt;
 
-/// The answers of one operation, by refusal number, 0 for done, and by place. A limb call has place 0.
-type Counts = [[u64; 5]; 9];
+/// The answers of one operation, by refusal number, 0 for done, and by place. A call without a place has place 0.
+type Counts = [[u64; 5]; 10];
+
+const NONE: Counts = [[0; 5]; 10];
 
 pub struct Tally {
     /// By code; row 0 is for every code that is not 1 to 41.
     fixnum: [Counts; 42],
     /// In the order of `Operation::ALL`.
     limbs: [Counts; Operation::ALL.len()],
+    /// In the order of `FoldOperation::ALL`.
+    folds: [Counts; FoldOperation::ALL.len()],
+    fold_cases: FoldCases,
     widths: DoneWidths,
     total: u64,
 }
 
 impl Tally {
     pub fn new() -> Tally {
-        let limbs = [[[0; 5]; 9]; Operation::ALL.len()];
-        Tally { fixnum: [[[0; 5]; 9]; 42], limbs, widths: DoneWidths::new(), total: 0 }
+        Tally {
+            fixnum: [NONE; 42],
+            limbs: [NONE; Operation::ALL.len()],
+            folds: [NONE; FoldOperation::ALL.len()],
+            fold_cases: FoldCases::new(),
+            widths: DoneWidths::new(),
+            total: 0,
+        }
     }
 
     pub fn fixnum(&mut self, call: &FixnumCall, refusal: u64, place: u64) {
@@ -42,7 +56,18 @@ impl Tally {
         }
     }
 
-    /// Every operation and possible answer, and every width of an operation, that no compared call has shown.
+    /// Counts a call on the record of a fold, which is given as it was before.
+    pub fn fold(&mut self, record: &Fold, call: &FoldCall, answer: FoldAnswer) {
+        self.folds[call.operation() as usize][answer.refusal as usize][answer.place as usize] += 1;
+        self.total += 1;
+        self.fold_cases.count(record, call, answer);
+        if answer.refusal == DONE {
+            self.widths.fold(record, call);
+        }
+    }
+
+    /// Every operation and possible answer, every width of an operation, and every case of a fold, that no compared
+    /// call has shown.
     pub fn missing(&self) -> Vec<String> {
         let mut missing = Vec::new();
         for (name, counts, possible) in self.rows() {
@@ -53,6 +78,7 @@ impl Tally {
             }
         }
         missing.extend(self.widths.missing());
+        missing.extend(self.fold_cases.missing());
         missing
     }
 
@@ -64,7 +90,11 @@ impl Tally {
             let counts = &self.limbs[operation as usize];
             (operation.name(), counts, limb_answers(operation).iter().map(|&refusal| (refusal, 0)).collect())
         });
-        unknown.chain(fixnum).chain(limbs)
+        let folds = FoldOperation::ALL.iter().map(|&operation| {
+            let counts = &self.folds[operation as usize];
+            (operation.name(), counts, operation.answers())
+        });
+        unknown.chain(fixnum).chain(limbs).chain(folds)
     }
 }
 
@@ -100,6 +130,6 @@ impl fmt::Display for Tally {
             }
             writeln!(f)?;
         }
-        write!(f, "{:28}{:>10}  {}", "all", self.total, self.widths)
+        write!(f, "{:28}{:>10}  {}\n{}", "all", self.total, self.widths, self.fold_cases)
     }
 }

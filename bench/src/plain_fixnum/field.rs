@@ -29,12 +29,8 @@ pub fn copy_bit_field(width: u64, x: i64, start: i64, end: i64, source: i64) -> 
 }
 
 pub fn rotate(width: u64, x: i64, start: i64, end: i64, count: i64) -> Answer {
-    check(width, [x, start, end, count])?;
-    check_field(width, start, end)?;
-    require(0 <= count && count <= end - start, Refusal::Domain)?;
-    let bits = field(x, start, end);
-    let rotated = bits << count | bits >> (end - start - count);
-    Ok((replace(x, start, end, rotated), 0))
+    check_rotation(width, x, start, end, count)?;
+    Ok((rotated(x, start, end, count), 0))
 }
 
 pub fn reverse(width: u64, x: i64, start: i64, end: i64) -> Answer {
@@ -44,12 +40,23 @@ pub fn reverse(width: u64, x: i64, start: i64, end: i64) -> Answer {
     Ok((replace(x, start, end, mirrored as i64), 0))
 }
 
+pub fn check_rotation(width: u64, x: i64, start: i64, end: i64, count: i64) -> Result<(), Refusal> {
+    check(width, [x, start, end, count])?;
+    check_field(width, start, end)?;
+    require(0 <= count && count <= end - start, Refusal::Domain)
+}
+
+pub fn rotated(x: i64, start: i64, end: i64, count: i64) -> i64 {
+    let bits = field(x, start, end);
+    replace(x, start, end, bits << count | bits >> (end - start - count))
+}
+
 fn check_field(width: u64, start: i64, end: i64) -> Result<(), Refusal> {
     require(0 <= start && start <= end && end < width as i64, Refusal::Domain)
 }
 
 /// So many ones, from bit 0 on; at most 63.
-fn ones(size: i64) -> i64 {
+pub fn ones(size: i64) -> i64 {
     !(-1 << size)
 }
 

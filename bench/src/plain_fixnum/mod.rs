@@ -30,7 +30,7 @@ fn check<const N: usize>(width: u64, arguments: [i64; N]) -> Result<(), Refusal>
 }
 
 /// Adding half of their number moves the fixnums to 0 and up. So one comparison is enough, which is quicker than two.
-fn is_fixnum(width: u64, x: i64) -> bool {
+pub fn is_fixnum(width: u64, x: i64) -> bool {
     let half = 1 << (width - 1);
     x.wrapping_add(half) as u64 <= u64::MAX >> (64 - width)
 }

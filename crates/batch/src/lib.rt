@@ -1,11 +1,7 @@
 // `batch`: a call on each line of standard input, and its answer on a line of standard output.
 ghost use mathlib.Core.Path.{_≡_};
-ghost use Prim.Native.Nat.{_≤_, _<_};
+ghost use Prim.Native.Nat.{_≤_};
 ghost use lib.ListN.{length};
-ghost use Rattle.io.specs.Counts.{Counts};
-
-pub mod write;
-
 use bytes::scan::find;
 use fxcalls::fx::reply_fx;
 use limbcalls::bitwise::reply_bitwise;
@@ -15,14 +11,18 @@ use line::reply::Reply;
 use line::reply::TROUBLE;
 use line::reply::done;
 use line::reply::trouble;
+use line::reply::worse;
 use line::split;
 use line::trouble::Expected;
 use output::put;
 use output::put_if;
-use write::report_input;
-use write::write_answer;
-
-const INPUT: i32 = 0;
+use streams::read::INPUT;
+use streams::read::Reading;
+use streams::read::TURNS;
+use streams::read::left;
+use streams::read::read_more;
+use streams::write::report_input;
+use streams::write::write_answer;
 
 // Answers are written when there are so many bytes of them, and before standard input is read again.
 const MUCH: usize = 32768;
@@ -41,10 +41,6 @@ struct State {
     filled: usize,
     skipping: bool,
     failed: bool,
-}
-
-fn worse(a: u64, b: u64) -> u64 {
-    if a < b { b } else { a }
 }
 
 // Writes the answers so far.
@@ -175,25 +171,6 @@ fn take_input(
     }
 }
 
-// How many bytes of input there are after a read, and whether it could be read.
-struct Reading {
-    good: bool,
-    have: usize,
-}
-
-fn read_more(input: &mut [u8], have: usize) -> Reading
-    ensures { λ r. ⌜ Counts (r .have) (now (input .exit)) ⌝ }
-{
-    let at = put(b"", input, have);
-    let got = libc::read(INPUT, &mut input[at..]);
-    let n = io::count(got, &input[at..]);
-    let have = put(b"", input, at + n);
-    Reading {
-        good: 0 <= got,
-        have,
-    }
-}
-
 // A line that fills the whole input is too long. It is answered once, and its rest passed over.
 fn too_long(said: &mut [u8], out: &mut [u8], state: State) -> State {
     let filled = put_if(
@@ -292,20 +269,12 @@ const START: Progress = Progress {
     more: true,
 };
 
-// How many turns are left after one: none where there is no more to read.
-fn left(more: bool, turns: u64) -> u64
-    requires { ⌜ 0 < turns ⌝ }
-    ensures { λ r. ⌜ r < turns ⌝ }
-{
-    if more { turns - 1 } else { 0 }
-}
-
-// All whole lines. A proved loop ends: it counts its turns down, from more than any input has bytes.
+// All whole lines.
 fn run_turns(input: &mut [u8], line: &mut [u8], said: &mut [u8], out: &mut [u8]) -> Progress {
     let mut last = START;
-    let mut turns: u64 = 0xFFFF_FFFF_FFFF_FFFF;
+    let mut turns = TURNS;
     while 0 < turns {
-        let reading = read_more(input, last.have);
+        let reading = read_more(INPUT, input, last.have);
         last = turn(input, line, said, out, reading, last);
         turns = left(last.more, turns);
     }

@@ -195,6 +195,20 @@ pub xor-cancel : (x y : ℤ) → bitwiseXor (bitwiseXor x y) y ≡ x
 unfolding bitwiseXor xor
 xor-cancel = identity₂ ((X ⊕ Y) ⊕ Y) X tt
 
+xor-swap : (x y z : ℤ) → bitwiseXor (bitwiseXor x y) z ≡ bitwiseXor (bitwiseXor x z) y
+unfolding bitwiseXor xor
+xor-swap = identity ((X ⊕ Y) ⊕ Z) ((X ⊕ Z) ⊕ Y) tt
+
+pub xor-interchange : (a b c d : ℤ) → bitwiseXor (bitwiseXor a b) (bitwiseXor c d) ≡ bitwiseXor (bitwiseXor a c) (bitwiseXor b d)
+xor-interchange a b c d =
+    sym (xor-assoc (bitwiseXor a b) c d) ∙ ap (λ (x : ℤ). bitwiseXor x d) (xor-swap a b c) ∙ xor-assoc (bitwiseXor a c) b d
+
+pub xor-injective-l : (x y z : ℤ) → bitwiseXor x z ≡ bitwiseXor y z → x ≡ y
+xor-injective-l x y z e = sym (xor-cancel x z) ∙ ap (λ (u : ℤ). bitwiseXor u z) e ∙ xor-cancel y z
+
+pub xor-injective-r : (x y z : ℤ) → bitwiseXor x y ≡ bitwiseXor x z → y ≡ z
+xor-injective-r x y z e = xor-injective-l y z x (xor-comm y x ∙ e ∙ xor-comm x z)
+
 -- ---- distribution and absorption
 
 pub and-distrib-ior : (x y z : ℤ) → bitwiseAnd x (bitwiseIor y z) ≡ bitwiseIor (bitwiseAnd x y) (bitwiseAnd x z)

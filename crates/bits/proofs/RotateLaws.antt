@@ -5,7 +5,7 @@ use mathlib.Core.Bool.{Bool}
 use Prim.Native.Nat.{ℕ, suc, _+_, _-_, _%_, _≤_, _<_}
 use native.Mathlib.Nat.{mod-lt}
 use native.Mathlib.Omega.{arith}
-use lib.IntN.{ℤ, pos, negsuc, negℤ, _+ℤ_, _-ℤ_, +ℤ-idr, +ℤ-assoc, +ℤ-comm, negℤ-+ℤ, negℤ-negℤ}
+use lib.IntN.{ℤ, pos, negsuc, negℤ, _+ℤ_, _-ℤ_, +ℤ-idr, +ℤ-invr, +ℤ-assoc, +ℤ-comm, negℤ-+ℤ, negℤ-negℤ}
 use Rattle.bits.specs.Logical.{bitwiseNot, bitwise}
 use Rattle.bits.specs.Division.{modℕ, «mod»}
 use Rattle.bits.specs.Field.{rotateIndex, reverseIndex, rotateBitField, reverseBitField}
@@ -122,6 +122,13 @@ module _ (start end : ℕ) where
       (λ j l. rotateIndex-lt (end - start) (omega arith) b j)
       ∙ permuteField-ext (λ j. rotateIndex (end - start) a (rotateIndex (end - start) b j)) (rotateIndex (end - start) (a +ℤ b)) x start end
       (λ j l. rotateIndex-compose (end - start) (omega arith) a b j)
+
+  -- a rotation can be undone, so two integers that are rotated into one are one
+  rotate-back : (x c : ℤ) → rotateBitField (rotateBitField x start end c) start end (negℤ c) ≡ x
+  rotate-back x c = rotate-compose x c (negℤ c) ∙ ap (rotateBitField x start end) (+ℤ-invr c) ∙ rotate-zero x
+
+  pub rotate-injective : (c x y : ℤ) → rotateBitField x start end c ≡ rotateBitField y start end c → x ≡ y
+  rotate-injective c x y e = sym (rotate-back x c) ∙ ap (λ (z : ℤ). rotateBitField z start end (negℤ c)) e ∙ rotate-back y c
 
   pub reverse-involutive : (x : ℤ) → reverseBitField (reverseBitField x start end) start end ≡ x
   unfolding reverseBitField

@@ -17,7 +17,8 @@ use Rattle.limbwords.specs.Value.{onTop, value, limbsOf, limbCount, shortest}
 use Rattle.outcomes.specs.Outcome.{guard, guardAt, mapDone, refusalOf}
 use Rattle.outcomes.specs.Tests.{allHold, firstFailedFrom, firstFailed, guardEach}
 use Rattle.outcomes.specs.Buffer.{capacity, laid, fitted, afterwards, countOf}
-use Rattle.limbstages.specs.Buffer.{stored, written, number}
+use Rattle.limbstages.specs.Buffer.{stored, written}
+use Rattle.outcomes.specs.Number.{number}
 use Rattle.limbstages.specs.Stages.{mostLimbs, isOperand, operand, natural, isField, field, sized}
 use Rattle.limbs.specs.Operations.{notOutcome, bitwiseOutcome, shiftOutcome, rotateOutcome, reverseOutcome, bitCountOutcome, lengthOutcome, firstBitSetOutcome}
 use Rattle.cases.specs.Table.{given, stated, table}

@@ -12,10 +12,11 @@ use lib.ListN.{length, drop}
 use Rattle.fxtable.specs.declared.answer.Answer.{Answer}
 use Rattle.fxtable.specs.Calls.{fixnumAnswer}
 use Rattle.limbstages.specs.declared.Written.{Written}
-use Rattle.limbstages.specs.declared.Number.{Number}
+use Rattle.outcomes.specs.declared.number.Number.{Number}
 use Rattle.outcomes.specs.Outcome.{Outcome}
 use Rattle.outcomes.specs.Buffer.{afterwards}
-use Rattle.limbstages.specs.Buffer.{stored, written, number}
+use Rattle.limbstages.specs.Buffer.{stored, written}
+use Rattle.outcomes.specs.Number.{number}
 use Rattle.limbs.specs.Operations.{notOutcome, bitwiseOutcome, shiftOutcome, rotateOutcome, reverseOutcome, bitCountOutcome, lengthOutcome, firstBitSetOutcome}
 
 -- fixnum: width, code, all arguments, refusal number, both results; writes: a limb call, the limbs of its result; counts: a limb call, the

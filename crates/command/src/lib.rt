@@ -4,6 +4,7 @@ mod ops;
 
 use about::reply_about;
 use about::reply_help;
+use foldcalls::join::reply_join;
 use fxcalls::fx::reply_fx;
 use fxcalls::list::reply_list;
 use fxcalls::widths::reply_widths;
@@ -23,24 +24,50 @@ use output::put;
 
 const VERSION: [u8; 19] = *b"ql (quebralua) 0.2\n";
 
-// Whether a line asks for the calls of standard input.
-pub fn is_batch(line: &[u8]) -> bool {
-    count(line) == 1 && is_word(line, 1, b"batch")
+// What a line asks for: an answer in words, or input to be read.
+pub enum Task {
+    Words,
+    Batch,
+    Fold,
 }
 
 fn asks_help(line: &[u8], i: usize) -> bool {
     is_word(line, i, b"--help") || is_word(line, i, b"-h")
 }
 
+// `fold`, or `widths fold`.
+fn is_fold(line: &[u8]) -> bool {
+    if is_word(line, 1, b"widths") {
+        return is_word(line, 2, b"fold");
+    }
+    is_word(line, 1, b"fold")
+}
+
+pub fn task_of(line: &[u8]) -> Task {
+    let n = count(line);
+    if asks_help(line, n) {
+        return Task::Words;
+    }
+    if is_fold(line) {
+        return Task::Fold;
+    }
+    if n == 1 && is_word(line, 1, b"batch") {
+        return Task::Batch;
+    }
+    Task::Words
+}
+
+// `fold`, which is 5 among the commands, always reads input and does not come here; `batch` comes with a word too many.
 fn reply_command(line: &[u8], out: &mut [u8]) -> Reply {
     match line_of(line, 1, Table::Commands) {
         1 => reply_fx(line, b"\n", out),
         2 => reply_widths(line, out),
         3 => reply_bitwise(line, out),
         4 => reply_list(line, out),
-        5 => reply_ops(line, out),
-        6 => reply_help(line, out),
-        7 => trouble(line, 2, Expected::End, out),
+        6 => reply_join(line, out),
+        7 => reply_ops(line, out),
+        8 => reply_help(line, out),
+        9 => trouble(line, 2, Expected::End, out),
         _ => {
             if is_word(line, 1, b"--version") {
                 done(put(&VERSION, out, 0))
@@ -51,7 +78,7 @@ fn reply_command(line: &[u8], out: &mut [u8]) -> Reply {
     }
 }
 
-// What the words of the command line are answered, but for `batch`.
+// What the words of the command line are answered where no input is read.
 pub fn reply_words(line: &[u8], out: &mut [u8]) -> Reply {
     let n = count(line);
     if n == 0 {

@@ -10,7 +10,8 @@ use Rattle.fxtable.specs.Domains.{leastWidth, largestWidth, isWidth}
 use Rattle.limbwords.specs.Value.{onTop, value, limbsOf, limbCount, shortest}
 use Rattle.outcomes.specs.Outcome.{Outcome, guard, guardAt, mapDone, refusalOf}
 use Rattle.outcomes.specs.Buffer.{capacity, laid, fitted, afterwards, countOf}
-use Rattle.limbstages.specs.Buffer.{stored, written, number}
+use Rattle.limbstages.specs.Buffer.{stored, written}
+use Rattle.outcomes.specs.Number.{number}
 use Rattle.limbstages.specs.Stages.{mostLimbs, isOperand, operand}
 use Rattle.convert.specs.Convert.{toFixnumOutcome, toLimbsOutcome, copied}
 

@@ -14,13 +14,14 @@ use Rattle.fxtable.specs.Domains.{isWidth}
 use Rattle.fxtable.proofs.CallLaws.{width-bounds}
 use Rattle.limbwords.specs.Value.{value, shortest}
 use Rattle.limbwords.proofs.ValueLaws.{value-shortest, length-shortest, limbCount-le}
-use Rattle.limbstages.specs.declared.Number.{Number}
+use Rattle.outcomes.specs.declared.number.Number.{Number}
 use Rattle.limbstages.specs.declared.Written.{Written}
 use Rattle.outcomes.specs.Outcome.{Outcome, done, refuse, guard, guardAt, mapDone, refusalOf}
 use Rattle.outcomes.specs.Buffer.{capacity, fitted, countOf}
 use Rattle.outcomes.proofs.OutcomeLaws.{passed, stage-passed}
 use Rattle.outcomes.proofs.BufferLaws.{fitted-enough}
-use Rattle.limbstages.specs.Buffer.{stored, written, Writes, number}
+use Rattle.limbstages.specs.Buffer.{stored, written, Writes}
+use Rattle.outcomes.specs.Number.{number}
 use Rattle.limbstages.specs.Stages.{isOperand, operand}
 use Rattle.limbstages.proofs.StageLaws.{operand-passed, operand-legal}
 use Rattle.limbstages.proofs.WritesLaws.{writes-as, written-limbs, shortest-operand}

@@ -12,7 +12,8 @@ use Rattle.outcomes.specs.Outcome.{done}
 use Rattle.outcomes.proofs.OutcomeLaws.{passed, stage-passed}
 use Rattle.limbwords.specs.Value.{value}
 use Rattle.limbstages.specs.declared.Written.{Written}
-use Rattle.limbstages.specs.Buffer.{Writes, number}
+use Rattle.limbstages.specs.Buffer.{Writes}
+use Rattle.outcomes.specs.Number.{number}
 use Rattle.limbstages.proofs.StageLaws.{operand-passed, operand-legal}
 use Rattle.limbstages.proofs.WritesLaws.{writes-as}
 use Rattle.convert.specs.Convert.{toFixnumOutcome, toLimbsOutcome}

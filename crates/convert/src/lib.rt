@@ -1,15 +1,16 @@
 // Limbs as a fixnum at a width, and a fixnum as limbs. Of the limb part this uses `to_word`, `from_word` and the refused answers, by
 // their contracts alone: they speak of the integer and its shortest limbs, and not of how limbs are worked on.
 ghost use mathlib.Core.Path.{_≡_};
-ghost use Rattle.limbstages.specs.Buffer.{Writes, number};
+ghost use Rattle.limbstages.specs.Buffer.{Writes};
+ghost use Rattle.outcomes.specs.Number.{number};
 ghost use Rattle.convert.specs.Convert.{toFixnumOutcome, toLimbsOutcome};
 use fxtable::width::is_width;
 use limbs::from_word;
 use limbs::to_word;
-use limbstages::Number;
 use limbstages::Written;
 use limbstages::answer::refuse;
-use limbstages::answer::refuse_number;
+use outcomes::number::Number;
+use outcomes::number::refuse_number;
 use words::sign::is_fixnum;
 
 // Refusals in this order: 1 for the width, 7 for an operand of no limb or of more than 1,024, 6 for an integer that is no fixnum

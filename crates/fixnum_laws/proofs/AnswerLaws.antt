@@ -13,13 +13,13 @@ use Rattle.bits.proofs.FitsLaws.{lt-two-pow}
 use Rattle.bits.specs.Testbit.{fits}
 use Rattle.bits.specs.Field.{rotateBitField, reverseBitField}
 use Rattle.bits.proofs.IntegerLaws.{pos-sub-ge}
-use Rattle.fxtable.specs.Calls.{answer, counted, isCount, fixnumTests, allFixnums, outcome, fixnumAnswer}
+use Rattle.fxtable.specs.Calls.{answer, counted, isCount, fixnumTests, allFixnums, outcome, fixnumAnswer, answerOf}
 use Rattle.bits.specs.Range.{within}
 use Rattle.fxtable.specs.Domains.{isWidth, arg, accepts, domainTestsFrom, domainTests, inDomains}
 use Rattle.fxtable.specs.Operations.{resultsOf, every, one}
 use Rattle.fxtable.specs.Table.{row, rows, isCode, rowOf}
 use Rattle.bits.specs.FieldList.{rotate}
-use Rattle.fixnum_laws.specs.Lists.{answerOf, isDone}
+use Rattle.fixnum_laws.specs.Lists.{isDone}
 use Rattle.outcomes.specs.Outcome.{Outcome, refused, done, guardAt}
 use Rattle.outcomes.proofs.OutcomeLaws.{passed}
 use Rattle.outcomes.proofs.TestLaws.{passed-each}

@@ -20,11 +20,11 @@ use Rattle.bits.proofs.FitsLaws.{is-true, fill-fits, bitwise-fits}
 use Rattle.bits.proofs.ListTheorem.{ListLaw, list-theorem, calls-fit}
 use Rattle.fxtable.specs.declared.answer.Answer.{Answer}
 use Rattle.outcomes.specs.Outcome.{refused, done}
-use Rattle.fxtable.specs.Calls.{answer, fixnumTests, allFixnums}
+use Rattle.fxtable.specs.Calls.{answer, fixnumTests, allFixnums, answerOf}
 use Rattle.fxtable.specs.Domains.{isWidth}
 use Rattle.fxtable.specs.Operations.{every}
 use Rattle.fxtable.specs.Table.{row, rows, isCode, rowOf}
-use Rattle.fixnum_laws.specs.Lists.{answerOf, answerTo, handOn, runAll, isDone, countFits, refusalTo, turned, ListStatement}
+use Rattle.fixnum_laws.specs.Lists.{answerTo, handOn, runAll, isDone, countFits, refusalTo, turned, ListStatement}
 use Rattle.bits.proofs.Booleans.{both-left, both-right}
 use Rattle.fxtable.proofs.TableLaws.{from-to}
 use Rattle.fixnum_laws.proofs.ShortLists.{done-answer, twice, between-reversals, twice-reversed, back, different}

@@ -21,12 +21,11 @@ use Rattle.fxtable.specs.declared.answer.Answer.{Answer}
 use Rattle.fxtable.specs.declared.domains.Domain.{Domain}
 use Rattle.fxtable.specs.Domains.{isWidth, arg, accepts, domainAt, domainTestsFrom, domainTests, inDomains}
 use Rattle.fxtable.specs.Table.{rows, noRow, isCode, rowOf}
-use Rattle.fxtable.specs.Calls.{answer, counted, isCount, fixnumTests, allFixnums, outcome, fixnumAnswer}
+use Rattle.fxtable.specs.Calls.{answer, counted, isCount, fixnumTests, allFixnums, outcome, fixnumAnswer, answerOf}
 use Rattle.fxtable.proofs.CallLaws.{between}
 use Rattle.fxtable.proofs.ArgumentTests.{fixnum-test, domain-test, fixnum-tests-length, domain-tests-length}
 use Rattle.fxtable.proofs.TableLaws.{of-row, of-code, at-most-four}
 use Rattle.fxstages.proofs.DomainLaws.{few-domains}
-use Rattle.fixnum_laws.specs.Lists.{answerOf}
 use Rattle.fixnum_laws.proofs.Stages.{stage, of-outcome, by-ends}
 use Rattle.fixnum_laws.specs.Places.{argument, isFixnum, inDomain, FirstBreach, RefusedFor, withoutPlace, formerFixnums, formerDomainsFrom, formerly, formerAnswer, PlaceStatement}
 

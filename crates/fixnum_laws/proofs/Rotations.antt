@@ -25,10 +25,10 @@ use Rattle.fxtable.specs.declared.answer.Answer.{Answer}
 use Rattle.fxtable.specs.Domains.{isWidth, arg, accepts, domainTestsFrom, domainTests}
 use Rattle.fxtable.specs.Operations.{equal}
 use Rattle.fxtable.specs.Table.{rows, isCode, rowOf}
-use Rattle.fxtable.specs.Calls.{answer, counted, isCount, allFixnums, outcome, fixnumAnswer}
+use Rattle.fxtable.specs.Calls.{answer, counted, isCount, allFixnums, outcome, fixnumAnswer, answerOf}
 use Rattle.fxtable.proofs.CallLaws.{arg-exactly}
 use Rattle.fxtable.proofs.MeaningLaws.{every-outcome}
-use Rattle.fixnum_laws.specs.Lists.{answerOf, isDone}
+use Rattle.fixnum_laws.specs.Lists.{isDone}
 use Rattle.fixnum_laws.specs.Rotations.{fieldTests, legalField, belowSize, isSize, strictAnswer, isFullRotation}
 use Rattle.fixnum_laws.proofs.AnswerLaws.{by-count, count-done, fourth-fails, rotate-answer, rotate-no-fixnum, rotate-out-of-domain}
 use Rattle.outcomes.specs.Tests.{allHold, firstFailedFrom, firstFailed, guardEach}

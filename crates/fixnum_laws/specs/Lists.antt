@@ -1,5 +1,4 @@
 -- Demand 3 for fixnums, in terms of the answers of calls: lists of codes 40 and 41 on one field at one width.
---   answerOf w code xs             ==  the answer to the arguments xs
 --   answerTo w start end call x    ==  the answer of a rotate (code 40) or a reverse (code 41) on the number x
 --   handOn a x                     ==  what the next call gets: the first result, or x where the answer a is a refusal
 --   runAll w start end calls x     ==  the number at the end of the list, from x
@@ -22,12 +21,9 @@ use Rattle.bits.specs.Field.{inField}
 use Rattle.outcomes.specs.Outcome.{done}
 use Rattle.bits.specs.FieldList.{FieldCall, rotate, reverse, netCount, oddReversals}
 use Rattle.fxtable.specs.declared.answer.Answer.{Answer}
-use Rattle.fxtable.specs.Calls.{answer, allFixnums, fixnumAnswer}
+use Rattle.fxtable.specs.Calls.{answer, allFixnums, answerOf}
 use Rattle.fxtable.specs.declared.domains.Domain.the-variants.{Rotation}
 use Rattle.fxtable.specs.Domains.{accepts}
-
-unfoldable pub answerOf : ℕ → ℕ → List ℤ → Answer
-answerOf w code xs = fixnumAnswer w code xs (length xs)
 
 unfoldable pub answerTo : ℕ → ℕ → ℕ → FieldCall → ℤ → Answer
 answerTo w start end (rotate c) x = answerOf w 40 (x ∷ pos start ∷ pos end ∷ c ∷ [])

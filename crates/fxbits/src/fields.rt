@@ -1,5 +1,5 @@
 // Codes 35, 36, 40 and 41: fxbit-field, fxcopy-bit-field, fxrotate-bit-field, fxreverse-bit-field. Argument 0 has a field, whose
-// start is argument 1 and its end argument 2. A rotate or a reverse takes the field as a number, and puts the new one back.
+// start is argument 1 and its end argument 2. A reverse takes the field as a number, and puts the new one back.
 ghost use Prim.Native.Nat.{_≤_, _<_};
 ghost use mathlib.Core.Path.{_≡_};
 ghost use Rattle.fxtable.specs.Calls.{answer, counted, outcome};
@@ -7,6 +7,7 @@ ghost use Rattle.fxtable.specs.Inner.{Accepted};
 use fxtable::answer::Answer;
 use fxtable::answer::done;
 use words::field;
+use words::rotation::rotate_bit_field;
 use words::sign::absolute;
 
 pub fn fields(width: u64, code: u64, args: [i64; 4], count: u64) -> Answer
@@ -25,8 +26,7 @@ pub fn fields(width: u64, code: u64, args: [i64; 4], count: u64) -> Answer
         }
         40 => {
             let c = absolute(args[3]);
-            let rotated = field::rotate(field::bit_field(x, start, end), end - start, c);
-            done(field::copy_bit_field(x, start, end, rotated), 0)
+            done(rotate_bit_field(x, start, end, c), 0)
         }
         _ => {
             let reversed = field::reverse(field::bit_field(x, start, end), end - start);

@@ -5,7 +5,7 @@ use line::roles::domain_of;
 use output::put;
 
 // The rule of a domain, at any width.
-pub fn put_rule(domain: Domain, out: &mut [u8], at: usize) -> usize {
+fn put_rule(domain: Domain, out: &mut [u8], at: usize) -> usize {
     match domain {
         Domain::Fixnum => put(b"must be a fixnum", out, at),
         Domain::Divisor => put(b"must not be 0", out, at),
@@ -16,6 +16,14 @@ pub fn put_rule(domain: Domain, out: &mut [u8], at: usize) -> usize {
         Domain::Distance => put(b"must be from 0 to width - 1", out, at),
         Domain::Rotation => put(b"must be from 0 to end - start", out, at),
     }
+}
+
+// The rule that an argument breaks: to be a fixnum, where the refusal is 4, or that of its domain.
+pub fn put_broken_rule(code: u64, refusal: u64, place: u64, out: &mut [u8], at: usize) -> usize {
+    if refusal == 4 {
+        return put_rule(Domain::Fixnum, out, at);
+    }
+    put_rule(domain_of(code, place), out, at)
 }
 
 // `argument 2, the divisor, must not be 0`, on a line of its own, unless the argument may be any fixnum.

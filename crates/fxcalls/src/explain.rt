@@ -1,8 +1,7 @@
 // Why a fixnum call is refused, in words.
-use super::domains::put_rule;
+use super::domains::put_broken_rule;
 use super::request::Request;
 use fxtable::answer::Answer;
-use fxtable::domains::Domain;
 use fxtable::table::CODES;
 use fxtable::table::signature_of;
 use fxtable::width::LARGEST_WIDTH;
@@ -11,7 +10,6 @@ use line::refusal::put_count_rule;
 use line::refusal::put_offender;
 use line::refusal::put_refused;
 use line::refusal::put_span;
-use line::roles::domain_of;
 use names::Table;
 use output::put;
 use output::put_natural;
@@ -27,14 +25,15 @@ fn put_limit(what: &[u8], n: u64, first: u64, last: u64, out: &mut [u8], at: usi
     put_span(first, last, out, at)
 }
 
+pub fn put_width_limit(width: u64, out: &mut [u8], at: usize) -> usize {
+    put_limit(b"width", width, LEAST_WIDTH, LARGEST_WIDTH, out, at)
+}
+
 // `argument 2, the start, is -1: it must be from 0 to width - 1`
 fn put_argument_reason(request: Request, answer: Answer, out: &mut [u8], at: usize) -> usize {
     let args = request.args;
     let at = put_offender(request.code, answer.place, args, out, at);
-    if answer.refusal == 4 {
-        return put_rule(Domain::Fixnum, out, at);
-    }
-    put_rule(domain_of(request.code, answer.place), out, at)
+    put_broken_rule(request.code, answer.refusal, answer.place, out, at)
 }
 
 // The reason of a refusal. It holds for every width with the same answer.
@@ -51,7 +50,7 @@ pub fn put_reason(
     let signature = signature_of(request.code);
     let refusal = answer.refusal;
     match refusal {
-        1 => put_limit(b"width", width, LEAST_WIDTH, LARGEST_WIDTH, out, at),
+        1 => put_width_limit(width, out, at),
         2 => put_limit(b"code", request.code, 1, CODES, out, at),
         3 => put_count_rule(
             Table::Fixnum,
@@ -72,7 +71,7 @@ fn before(n: u64) -> u64 {
 }
 
 // `, at width 24 from -8388608 to 8388607`, and the end of the line
-fn put_range(width: u64, out: &mut [u8], at: usize) -> usize {
+pub fn put_range(width: u64, out: &mut [u8], at: usize) -> usize {
     let half = power(before(width) % 64);
     let at = put(b", at width ", out, at);
     let at = put_natural(width, out, at);

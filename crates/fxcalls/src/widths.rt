@@ -29,7 +29,7 @@ fn agree(request: Request, v: u64, w: u64) -> bool {
 }
 
 // The first width from v on that has the answer of a width, or the first that has not; past the last where there is none.
-fn next(request: Request, width: u64, v: u64, has: bool) -> u64
+pub fn next(request: Request, width: u64, v: u64, has: bool) -> u64
     ensures { λ r. ⌜ v ≤ r ⌝ }
 {
     let mut w = v;

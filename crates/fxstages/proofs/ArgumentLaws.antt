@@ -79,6 +79,10 @@ module _ {w code : ℕ} {xs : List ℤ} {n : ℕ} (a : Accepted w code xs n) whe
       let f = within-field (w - 1) (arg xs 1) (arg xs 2) (second p) (third q) in
       record { start = f .0; end = f .1; ordered = f .2; below = omega (arith, bounds, f .3) }
 
+  pub end-lt : domainOf code 1 ≡ Position → domainOf code 2 ≡ FieldEnd → natAbs (arg xs 2) < w
+  unfolding accepts
+  end-lt p q = omega (arith, bounds, within-field (w - 1) (arg xs 1) (arg xs 2) (second p) (third q) .3)
+
   pub rotation : FieldArguments xs → domainOf code 3 ≡ Rotation
       → (isNegative (arg xs 3) ≡ false) × (natAbs (arg xs 3) ≤ natAbs (arg xs 2) - natAbs (arg xs 1))
   unfolding accepts

@@ -7,12 +7,13 @@
 --   answer o                           ==  refusal 0 and the two results; or the refusal number, zero results, and the place of the argument
 --                                          that the refusal is for, counted from 1, or 0 where it is for none
 --   fixnumAnswer w code args count     ==  the answer of the call. Stages 4 and 5 give the place of the first argument that fails
+--   answerOf w code xs                 ==  the answer to the arguments xs, all of them counted
 use Prim.Native.Nat.{ℕ}
 use mathlib.Core.Bool.{Bool, _&&_, _||_}
 use mathlib.Core.List.{List, map}
 use lib.Dec.{leb, eqb}
 use lib.IntN.{ℤ, pos}
-use lib.ListN.{take}
+use lib.ListN.{length, take}
 use Rattle.bits.specs.Testbit.{fits}
 use Rattle.outcomes.specs.Outcome.{Outcome, refused, done, guard}
 use Rattle.outcomes.specs.Tests.{allHold, guardEach}
@@ -52,3 +53,6 @@ fixnumAnswer w code args count =
     (guardEach (fixnumTests w (counted args count)) 4
     (guardEach (domainTests (rowOf code .domains) w (counted args count)) 5
     (outcome w code (counted args count)))))))
+
+unfoldable pub answerOf : ℕ → ℕ → List ℤ → Answer
+answerOf w code xs = fixnumAnswer w code xs (length xs)

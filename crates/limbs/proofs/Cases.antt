@@ -23,7 +23,8 @@ use Rattle.limbwords.proofs.ValueLaws.{pos-injective}
 use Rattle.limbstages.proofs.ShiftLaws.{sized-done, sized-refused}
 use Rattle.limbwords.specs.Value.{onTop, value, limbsOf, limbCount, shortest}
 use Rattle.limbstages.specs.declared.Written.{Written}
-use Rattle.limbstages.specs.Buffer.{stored, written, number}
+use Rattle.limbstages.specs.Buffer.{stored, written}
+use Rattle.outcomes.specs.Number.{number}
 use Rattle.limbstages.specs.Stages.{mostLimbs, isOperand, operand, natural, isField, field, isNewBit, newBit, sized}
 use Rattle.limbs.specs.Operations.{notOutcome, bitwiseOutcome, ifOutcome, copyBitOutcome, bitFieldOutcome, copyBitFieldOutcome, shiftOutcome, shiftLeftOutcome, shiftRightOutcome, rotateOutcome, reverseOutcome, bitCountOutcome, lengthOutcome, firstBitSetOutcome, bitSetOutcome, wordOutcome}
 

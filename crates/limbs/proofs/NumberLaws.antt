@@ -14,8 +14,8 @@ use Rattle.words.proofs.Digitwise.{digit-testbit}
 use Rattle.outcomes.specs.Outcome.{Outcome, done, refuse}
 use Rattle.limbwords.specs.Results.{bitsFrom}
 use Rattle.limbwords.proofs.LimbLaws.{testbit-bitsFrom}
-use Rattle.limbstages.specs.declared.Number.{Number}
-use Rattle.limbstages.specs.Buffer.{number}
+use Rattle.outcomes.specs.declared.number.Number.{Number}
+use Rattle.outcomes.specs.Number.{number}
 use Rattle.limbstages.specs.Stages.{isOperand, operand}
 use Rattle.limbstages.proofs.StageLaws.{illegal, operand-passed, operand-failed}
 

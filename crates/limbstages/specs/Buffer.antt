@@ -2,16 +2,14 @@
 --   stored o out first         ==  the shortest limbs of the outcome's integer, or its refusal, or refusal 8 where they do not fit
 --   written o out first        ==  the answer: the refusal number, 0 for done, and how many limbs are written
 --   Writes o out first r out′  ==  r is the answer, and out′ the buffer afterwards
---   number o                   ==  the answer of a call that writes nothing
 use Prim.Native.Nat.{ℕ}
 use mathlib.Core.Path.{_≡_}
 use mathlib.Core.List.{List}
-use lib.IntN.{ℤ, pos}
-use Rattle.outcomes.specs.Outcome.{Outcome, refused, done, mapDone, refusalOf}
+use lib.IntN.{ℤ}
+use Rattle.outcomes.specs.Outcome.{Outcome, mapDone, refusalOf}
 use Rattle.outcomes.specs.Buffer.{fitted, afterwards, countOf}
 use Rattle.limbwords.specs.Value.{shortest}
 use Rattle.limbstages.specs.declared.Written.{Written}
-use Rattle.limbstages.specs.declared.Number.{Number}
 
 unfoldable pub stored : Outcome ℤ → List ℕ → ℕ → Outcome (List ℕ)
 stored o out first = fitted (mapDone shortest o) out first
@@ -22,7 +20,3 @@ written o out first = record { refusal = refusalOf (stored o out first); length 
 pub record Writes (o : Outcome ℤ) (out : List ℕ) (first : ℕ) (r : Written) (out′ : List ℕ) : Type 0 where
   pub answer : r ≡ written o out first
   pub buffer : out′ ≡ afterwards (stored o out first) out first
-
-unfoldable pub number : Outcome ℤ → Number
-number (refused k detail) = record { refusal = k; value = pos 0 }
-number (done z) = record { refusal = 0; value = z }

@@ -1,9 +1,6 @@
-// What a call answers.
+// The answer of a refused call that writes an integer.
 ghost use mathlib.Core.Path.{_≡_};
-ghost use Rattle.outcomes.specs.Outcome as outcome;
-ghost use Rattle.limbstages.specs.Buffer.{number};
 ghost use Rattle.limbstages.specs.Inner.{refusal};
-use super::Number;
 use super::Written;
 
 pub fn refuse(k: u64) -> Written
@@ -12,23 +9,5 @@ pub fn refuse(k: u64) -> Written
     Written {
         refusal: k,
         length: 0,
-    }
-}
-
-pub fn refuse_number(k: u64) -> Number
-    ensures { λ r. ⌜ r ≡ number (outcome.refuse k) ⌝ }
-{
-    Number {
-        refusal: k,
-        value: 0,
-    }
-}
-
-pub fn done(v: i64) -> Number
-    ensures { λ r. ⌜ r ≡ number (outcome.done v) ⌝ }
-{
-    Number {
-        refusal: 0,
-        value: v,
     }
 }

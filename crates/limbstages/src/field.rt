@@ -1,8 +1,7 @@
 // The operations on a field of an operand.
 ghost use mathlib.Core.Path.{_≡_};
-ghost use mathlib.Core.Bool.{true, cond};
-ghost use Prim.Native.Nat.{ℕ, _+_, _*_, _%_, _≤_, _<_};
-ghost use lib.Dec.{eqb};
+ghost use mathlib.Core.Bool.{true};
+ghost use Prim.Native.Nat.{ℕ, _+_, _*_, _≤_, _<_};
 ghost use lib.ListN.{length};
 ghost use Rattle.bits.specs.Testbit.{bitLength};
 ghost use Rattle.outcomes.specs.Outcome as outcome;
@@ -21,13 +20,6 @@ fn enough_for(x: &[u32], end: u64) -> usize
     ensures { λ r. ⌜ ((length (now (x .entry)) ≤ r) × (end < 32 * r)) × (r ≤ length (now (x .entry)) + 1024) ⌝ }
 {
     max(x.len(), (end / 32) as usize + 1)
-}
-
-// A count below the size of the field, with the same effect. An empty field has none, and is rotated by 0.
-pub fn reduced(count: u64, size: u64) -> u64
-    ensures { λ r. ⌜ r ≡ cond (eqb size 0) 0 (count % size) ⌝ }
-{
-    if size == 0 { 0 } else { count % size }
 }
 
 // An operation that changes no bit of x from `end` on.

@@ -11,10 +11,3 @@ pub struct Written {
     pub refusal: u64,
     pub length: u64,
 }
-
-// What a call answers that writes nothing: a refusal number, 0 for done, and a number, 0 where the call is refused.
-#[repr(C)]
-pub struct Number {
-    pub refusal: u64,
-    pub value: i64,
-}

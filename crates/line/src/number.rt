@@ -41,6 +41,10 @@ pub fn width(line: &[u8], i: usize) -> Natural {
     read_natural(line, i, Expected::Width)
 }
 
+pub fn length(line: &[u8], i: usize) -> Natural {
+    read_natural(line, i, Expected::Length)
+}
+
 // The number of a word in a list of names, or 0.
 pub fn line_of(line: &[u8], i: usize, table: Table) -> u64 {
     let word = word(line, i);

@@ -1,5 +1,5 @@
 // What is said of a refused call, of either kind.
-use super::roles::put_role;
+use super::roles::put_role_behind;
 use names::Table;
 use names::put_name;
 use output::put;
@@ -51,11 +51,11 @@ pub fn put_refused(refusal: u64, out: &mut [u8], at: usize) -> usize {
 pub fn put_argument(code: u64, place: u64, out: &mut [u8], at: usize) -> usize {
     let at = put(b"argument ", out, at);
     let at = put_natural(place, out, at);
-    put_role(code, place, out, at)
+    put_role_behind(code, place, out, at)
 }
 
 // An argument, by its place from 1 to 4.
-fn argument_at(place: u64, args: [i64; 4]) -> i64 {
+pub fn argument_at(place: u64, args: [i64; 4]) -> i64 {
     match place {
         1 => args[0],
         2 => args[1],
@@ -64,10 +64,15 @@ fn argument_at(place: u64, args: [i64; 4]) -> i64 {
     }
 }
 
+// ` is -1: it `
+pub fn put_is(value: i64, out: &mut [u8], at: usize) -> usize {
+    let at = put(b" is ", out, at);
+    let at = put_decimal(value, out, at);
+    put(b": it ", out, at)
+}
+
 // `argument 2, the start, is -1: it `
 pub fn put_offender(code: u64, place: u64, args: [i64; 4], out: &mut [u8], at: usize) -> usize {
     let at = put_argument(code, place, out, at);
-    let at = put(b" is ", out, at);
-    let at = put_decimal(argument_at(place, args), out, at);
-    put(b": it ", out, at)
+    put_is(argument_at(place, args), out, at)
 }

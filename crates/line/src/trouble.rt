@@ -18,13 +18,18 @@ pub enum Expected {
     Integer,
     IntegerOfFewDigits,
     ListCall,
+    Length,
     LineCommand,
     End,
 }
 
 fn put_expected(expected: Expected, out: &mut [u8], at: usize) -> usize {
     match expected {
-        Expected::Command => put(b"fx, widths, bitwise, list, batch, ops or help", out, at),
+        Expected::Command => put(
+            b"fx, widths, bitwise, list, fold, join, batch, ops or help",
+            out,
+            at,
+        ),
         Expected::Topic => put(
             b"a command or an operation, such as widths or fxand (ql ops lists operations),",
             out,
@@ -53,6 +58,7 @@ fn put_expected(expected: Expected, out: &mut [u8], at: usize) -> usize {
             at,
         ),
         Expected::ListCall => put(b"rev, or rot: and a count, such as rot:3,", out, at),
+        Expected::Length => put(b"a length from 0 to 2^63 - 1", out, at),
         Expected::LineCommand => put(b"fx or bitwise", out, at),
         Expected::End => put(b"no further word", out, at),
     }
@@ -67,22 +73,32 @@ fn shown(byte: u8) -> u8 {
     }
 }
 
-// A word as it is, or its first 40 bytes.
-fn put_shown(text: &[u8], out: &mut [u8], at: usize) -> usize {
+// A word as it is, or its first bytes.
+fn put_shown(text: &[u8], most: usize, out: &mut [u8], at: usize) -> usize {
     let mut filled = at;
     let mut i = 0;
-    while i < text.len() && i < 40 {
+    while i < text.len() && i < most {
         filled = put(&[shown(text[i])], out, filled);
         i += 1;
     }
     put_if(i < text.len(), b"..", out, filled)
 }
 
-pub fn put_word(line: &[u8], i: usize, out: &mut [u8], at: usize) -> usize {
+fn put_first(line: &[u8], i: usize, most: usize, out: &mut [u8], at: usize) -> usize {
     let word = word(line, i);
     let start = word.start;
     let end = word.end;
-    put_shown(&line[start..end], out, at)
+    put_shown(&line[start..end], most, out, at)
+}
+
+// A word, as its first 40 bytes.
+pub fn put_word(line: &[u8], i: usize, out: &mut [u8], at: usize) -> usize {
+    put_first(line, i, 40, out, at)
+}
+
+// The name of a file: whole, unless no file can have it.
+pub fn put_file_name(line: &[u8], i: usize, out: &mut [u8], at: usize) -> usize {
+    put_first(line, i, libc::PATH_MAX, out, at)
 }
 
 // ` is 'x', and `, or ` is missing: `

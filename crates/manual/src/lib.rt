@@ -109,6 +109,12 @@ pub fn put_usage(out: &mut [u8]) -> usize {
   ql widths OP ARG..                      the same at every width, and which widths agree
   ql bitwise OP ARG..                     a bitwise operation on integers of up to 1024 limbs of 32 bits
   ql list WIDTH START END NUMBER CALL..   calls rot:COUNT and rev on one field, and the one rotation they equal
+  ql fold WIDTH START END COUNT [ACCUMULATOR] [FILE..]
+                                          an identifier of the bytes of standard input, or of each file
+  ql widths fold START END COUNT [ACCUMULATOR] [FILE..]
+                                          the same at every width, and which widths agree
+  ql join WIDTH START END COUNT ACCUMULATOR PIECE LENGTH
+                                          the identifier after a piece that was folded by itself
   ql batch                                calls of fx and bitwise, a line each, from standard input
   ql ops [OP]                             the operations: codes, names, arguments
   ql help [WORD]                          this, or what a command or an operation does
@@ -122,7 +128,7 @@ pub fn put_usage(out: &mut [u8]) -> usize {
 OP is a name of R6RS, or the code of a fixnum operation. A number is written in decimal, or in hexadecimal after 0x or #x,
 in binary after 0b or #b, in octal after #o. A result is printed in decimal and in hexadecimal, or as 'refused' with a
 number and the reason. The exit status is 0 where a call is done and 1 where it is refused, or where widths differ; it is
-2 where a word cannot be read or an answer cannot be written.
+2 where a word or an input cannot be read or an answer cannot be written.
 ",
         out,
         at,
@@ -133,6 +139,7 @@ number and the reason. The exit status is 0 where a call is done and 1 where it 
   ql widths fxarithmetic-shift 1 30
   ql bitwise bitwise-xor -1 #xffffffffffffffffffffffff
   ql list 24 4 12 0x1234 rot:3 rev rot:1
+  ql fold 62 0 61 7 FILE
 ",
         out,
         at,
@@ -155,10 +162,12 @@ the reason.
 fn put_widths_help(out: &mut [u8]) -> usize {
     put(
         b"ql widths OP ARG..
-One fixnum operation at every width that is accepted, as R6RS says it and this project settles what R6RS leaves open. A line has
-the widths with one answer. A call that is done at a width is done at every larger one and answers the same there, but for fx+/carry,
-fx-/carry and fx*/carry, and for fxcopy-bit where it changes the sign bit of the smaller width. The exit status is 0 where all widths
-agree. Whether a Scheme system does what R6RS says is another question: docs/HOSTS.md has what some of them do.
+ql widths fold START END COUNT [ACCUMULATOR] [FILE..]
+One fixnum operation at every width that is accepted, as R6RS says it and this project settles what R6RS leaves open; or the fold of
+standard input, or of each file, as 'ql help fold' says it. A line has the widths with one answer. A call or a fold that is done at a
+width is done at every larger one and answers the same there, but for fx+/carry, fx-/carry and fx*/carry, and for fxcopy-bit where it
+changes the sign bit of the smaller width. The exit status is 0 where all widths agree, and for a fold only where they accept it.
+Whether a Scheme system does what R6RS says is another question: docs/HOSTS.md has what some of them do.
 ",
         out,
         0,
@@ -181,6 +190,32 @@ fn put_list_help(out: &mut [u8]) -> usize {
         b"ql list WIDTH START END NUMBER CALL..
 Calls on one field of a number, one after the other: rot:COUNT rotates it, rev reverses it. Each line has a call and its result. Then
 come the net count, and the one rotation, of the number or of its reversal, that the whole list equals.
+",
+        out,
+        0,
+    )
+}
+
+fn put_fold_help(out: &mut [u8]) -> usize {
+    put(
+        b"ql fold WIDTH START END COUNT [ACCUMULATOR] [FILE..]
+An identifier of bytes, those of standard input or of each file. For each byte the accumulator, a fixnum at the width, has its bits from
+START up to, but not at, END rotated by COUNT, as by fxrotate-bit-field, and is then xored with the byte. The last accumulator is the
+identifier. It does not depend on how the bytes come in pieces, nor on the width, as long as the width is accepted. The word after COUNT is
+the accumulator at the start where it is a number; otherwise that is 0, and the word is the first file. A file whose name is a number is
+written ./5. Of several files, each line ends with the name. The exit status is 1 where the settings are refused; nothing is read
+then. It is 2 where a file cannot be read; the others are still answered.
+",
+        out,
+        0,
+    )
+}
+
+fn put_join_help(out: &mut [u8]) -> usize {
+    put(
+        b"ql join WIDTH START END COUNT ACCUMULATOR PIECE LENGTH
+The identifier that ql fold would answer after LENGTH further bytes, from the identifier so far, ACCUMULATOR, and the identifier PIECE of
+these bytes by themselves, folded from 0 with the same settings. So pieces can be folded side by side, and joined in their order.
 ",
         out,
         0,
@@ -216,8 +251,10 @@ pub fn put_command_help(command: u64, out: &mut [u8]) -> usize {
         2 => put_widths_help(out),
         3 => put_bitwise_help(out),
         4 => put_list_help(out),
-        5 => put_ops_help(out),
-        6 => put_usage(out),
+        5 => put_fold_help(out),
+        6 => put_join_help(out),
+        7 => put_ops_help(out),
+        8 => put_usage(out),
         _ => put_batch_help(out),
     }
 }

@@ -6,11 +6,13 @@ use check::same;
 use output::put;
 
 // The commands.
-fn command_lines() -> [u8; 37] {
+fn command_lines() -> [u8; 47] {
     *b"fx
 widths
 bitwise
 list
+fold
+join
 ops
 help
 batch"

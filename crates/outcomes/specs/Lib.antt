@@ -1,4 +1,5 @@
 pub mod Outcome
+pub mod Number
 pub mod Tests
 pub mod Buffer
 pub mod Puts

@@ -1,2 +1,3 @@
-// No functions: this crate defines what every call says of its outcome and of the buffer that it writes (specs/), and proves the laws
-// of these definitions (proofs/).
+// What every call says of its outcome and of the buffer that it writes (specs/), with the laws of these definitions (proofs/), and the
+// answer of a call whose outcome is one number.
+pub mod number;

@@ -2,11 +2,14 @@
 // read, by one write.
 ghost use Prim.Native.Nat.{_≤_};
 use batch::run_batch;
-use batch::write::write_reply;
-use command::is_batch;
+use command::Task;
 use command::reply_words;
+use command::task_of;
+use foldfiles::run_fold;
 use line::reply::TROUBLE;
 use output::put;
+use streams::write::write_out;
+use streams::write::write_reply;
 
 // Puts a word of the command line, and a byte 0, into the line from an index on, and answers the index after them. The line is full
 // where there is no room.
@@ -37,6 +40,19 @@ fn take_words(line: &mut [u8]) -> usize {
     at
 }
 
+// Answers a line, and gives its status. The buffer of the words of `batch` takes its input.
+fn answer_line(line: &mut [u8], n: usize, out: &mut [u8]) -> u64 {
+    let n = put(b"", line, n);
+    match task_of(&line[..n]) {
+        Task::Batch => run_batch(line, out),
+        Task::Fold => run_fold(&line[..n], out),
+        Task::Words => {
+            let reply = reply_words(&line[..n], out);
+            write_out(reply, out)
+        }
+    }
+}
+
 // Answers the command line, and gives its status.
 fn answer_words() -> u64 {
     let mut line = io::large_buffer();
@@ -49,12 +65,7 @@ fn answer_words() -> u64 {
             b"ql: the words have more than 65535 bytes together\n",
         );
     }
-    if is_batch(&line[..n]) {
-        return run_batch(&mut line, &mut out);
-    }
-    let reply = reply_words(&line[..n], &mut out);
-    let k = put(b"", &mut out, reply.filled);
-    write_reply(reply.status, &out[..k])
+    answer_line(&mut line, n, &mut out)
 }
 
 // The command: 0 for done, 1 for refused or widths that differ, 2 for trouble.

@@ -1,15 +1,19 @@
-// The C library: the fixnum calls, the limb calls and the conversions under plain C names, with the contract of each. include/quebralua.h is
-// the header. In C a slice is a pointer and a length.
+// The C library: the fixnum calls, the limb calls, the conversions and the fold under plain C names, with the contract of each.
+// include/quebralua.h is the header. In C a slice is a pointer and a length.
 ghost use mathlib.Core.Path.{_≡_};
 ghost use mathlib.Core.Bool.{_&&_, _||_, xor};
 ghost use mathlib.Core.List.{[], _∷_};
 ghost use Rattle.convert.specs.Convert.{toFixnumOutcome, toLimbsOutcome};
 ghost use Rattle.fxtable.specs.Calls.{fixnumAnswer};
-ghost use Rattle.limbstages.specs.Buffer.{Writes, number};
+ghost use Rattle.limbstages.specs.Buffer.{Writes};
+ghost use Rattle.outcomes.specs.Number.{number};
 ghost use Rattle.limbs.specs.Operations.{notOutcome, bitwiseOutcome, ifOutcome, copyBitOutcome, bitFieldOutcome, copyBitFieldOutcome, shiftOutcome, shiftLeftOutcome, shiftRightOutcome, rotateOutcome, reverseOutcome, bitCountOutcome, lengthOutcome, firstBitSetOutcome, bitSetOutcome};
+
+pub mod folds;
+
 use fxtable::answer::Answer;
-use limbstages::Number;
 use limbstages::Written;
+use outcomes::number::Number;
 
 // The operation with a code, at a width, on the first `count` of a, b, c, d
 #[no_mangle]

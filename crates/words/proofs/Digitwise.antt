@@ -7,8 +7,10 @@ use lib.Bits.{bitAnd, bitOr, bitXor, differ, and-step, or-step, xor-step, and-lt
 use lib.IntN.{ℤ, pos}
 use lib.Signed.{mag}
 use Rattle.bits.specs.Testbit.{testbit, consBit}
+use Rattle.bits.specs.Logical.{bitwiseXor}
 use Rattle.bits.specs.Shift.{floorDiv}
-use Rattle.bits.proofs.TestbitLaws.{cond-lt, testbit-half, testbit-consBit-zero, testbit-consBit-suc}
+use Rattle.bits.proofs.LogicalLaws.{testbit-xor}
+use Rattle.bits.proofs.TestbitLaws.{testbit-ext, cond-lt, testbit-half, testbit-consBit-zero, testbit-consBit-suc}
 use Rattle.bits.proofs.ValueLaws.{consBit-half}
 
 -- f is op on two of the digits 0 and 1
@@ -65,3 +67,6 @@ ior-digitwise = record { digit = max; step = or-step; digits = each (Agree max _
 pub xor-digitwise : Digitwise xor bitXor
 unfolding xor
 xor-digitwise = record { digit = differ; step = xor-step; digits = each (Agree differ xor) refl refl refl refl; fits = xor-lt }
+
+pub xor-naturals : (a b : ℕ) → pos (bitXor a b) ≡ bitwiseXor (pos a) (pos b)
+xor-naturals a b = testbit-ext (λ i. testbit-digitwise xor-digitwise i a b ∙ sym (testbit-xor (pos a) (pos b) i))

@@ -3,6 +3,7 @@ pub mod MagnitudeLaws
 pub mod Digitwise
 pub mod FieldWords
 pub mod RotateWords
+pub mod RotationLaws
 pub mod SwapLaws
 pub mod CountWords
 pub mod LogicalWords

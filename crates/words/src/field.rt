@@ -1,5 +1,5 @@
 // Fields of bits: the positions of an i64 from start up to, but not at, end. A field is read as a number below 2^(end - start),
-// and replaced, rotated and reversed as such a number.
+// and replaced and reversed as such a number.
 ghost use mathlib.Core.Path.{_≡_};
 ghost use Prim.Native.Nat.{_<_, _≤_, _*_, _%_, _-_, _^_};
 ghost use lib.IntN.{pos};
@@ -7,7 +7,7 @@ ghost use Rattle.bits.specs.Testbit.{testbit, fill, ofBits};
 ghost use Rattle.words.specs.Sign.{ofMagnitude};
 ghost use Rattle.bits.specs.Shift.{shiftRight};
 ghost use Rattle.bits.specs.Division.{modℕ};
-ghost use Rattle.bits.specs.Field.{copyBitField, rotateBitField, reverseBitField};
+ghost use Rattle.bits.specs.Field.{copyBitField, reverseBitField};
 use super::reverse::reverse_word;
 use super::sign::from_magnitude;
 use super::sign::is_negative;
@@ -22,7 +22,7 @@ fn low(v: u64, k: u64) -> u64
     v & (power(k) - 1)
 }
 
-fn shifted(v: u64, k: u64) -> u64
+pub fn shifted(v: u64, k: u64) -> u64
     requires { ⌜ (k < 64) × (v * 2 ^ k < 2 ^ 64) ⌝ }
     ensures { λ r. ⌜ r ≡ v * 2 ^ k ⌝ }
 {
@@ -93,18 +93,6 @@ pub fn extend(negative: bool, x: i64, k: u64) -> i64
     ensures { λ r. ⌜ r ≡ ofBits k (testbit x) (fill negative) ⌝ }
 {
     from_magnitude(negative, signed_low(negative, low_bits(x, k), k))
-}
-
-// A field v of some size, rotated by c towards the high end: its low size - c bits go up by c, and the c bits above them come down.
-//
-//     size 8, c 3     v         h g f e d c b a
-//                     result    e d c b a h g f
-pub fn rotate(v: u64, size: u64, c: u64) -> u64
-    requires { ⌜ (size < 64) × (c ≤ size) × (v < 2 ^ size) ⌝ }
-    ensures { λ r. ⌜ pos r ≡ rotateBitField (pos v) 0 size (pos c) ⌝ }
-{
-    let stay = size - c;
-    shifted(low(v, stay), c) + (v >> stay)
 }
 
 // A field v of some size with its bits in the opposite order. In the whole word's opposite order they stand 64 - size too high.

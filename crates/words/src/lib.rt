@@ -5,4 +5,5 @@ pub mod field;
 pub mod logical;
 pub mod range;
 pub mod reverse;
+pub mod rotation;
 pub mod sign;

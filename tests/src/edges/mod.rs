@@ -5,6 +5,13 @@ mod fixnum;
 mod fixnum_carries;
 mod fixnum_fields;
 mod fixnum_places;
+mod fold_binding;
+mod fold_chunks;
+mod fold_fields;
+mod fold_forged;
+mod fold_joins;
+mod fold_openings;
+mod fold_settings;
 mod limb_fields;
 mod limb_operands;
 mod limb_positions;
@@ -28,4 +35,13 @@ pub fn limbs(checker: &mut Checker) {
 
 pub fn conversion(checker: &mut Checker) {
     conversion::run(checker);
+}
+
+pub fn folds(checker: &mut Checker) {
+    fold_binding::run();
+    fold_openings::run(checker);
+    fold_forged::run(checker);
+    fold_chunks::run(checker);
+    fold_fields::run(checker);
+    fold_joins::run(checker);
 }

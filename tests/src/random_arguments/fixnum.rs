@@ -13,22 +13,27 @@ pub fn call(random: &mut Random) -> FixnumCall {
     let width = width(random);
     let code = if random.one_in(100) { random.choose(&[0, 42, 43, u64::MAX]) } else { 1 + random.below(41) };
     let count = count(random, code);
-    let fixnum_width = nearest_accepted(width);
+    let args = arguments(random, nearest_accepted(width), code);
+    FixnumCall { width, code, count, args }
+}
+
+/// Four arguments of that code at an accepted width.
+pub fn arguments(random: &mut Random, width: u64, code: u64) -> [i64; 4] {
     let mut args = [0; 4];
     for (index, arg) in args.iter_mut().enumerate() {
-        *arg = argument(random, fixnum_width, code, index);
+        *arg = argument(random, width, code, index);
     }
     match code {
-        16..=21 if random.one_in(24) => args = [least(fixnum_width), -1, 0, 0],
+        16..=21 if random.one_in(24) => args = [least(width), -1, 0, 0],
         37 | 38 => shrink(random, code, &mut args),
-        35 | 36 | 40 | 41 => order_field(random, fixnum_width, code, &mut args),
+        35 | 36 | 40 | 41 => order_field(random, width, code, &mut args),
         _ => {}
     }
     // An argument that is no fixnum, beside those of any value: a rotation count is seldom one.
     if random.one_in(32) {
-        args[random.below(4) as usize] = random.choose(&beyond(fixnum_width));
+        args[random.below(4) as usize] = random.choose(&beyond(width));
     }
-    FixnumCall { width, code, count, args }
+    args
 }
 
 /// An accepted width, most often.

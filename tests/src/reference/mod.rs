@@ -9,11 +9,13 @@
 //! - `conversion`: between fixnum and limbs
 //! - `output`: what a result does to the output buffer
 //! - `lists`: the net count of a list of rotate and reverse calls
+//! - `fold`: a running fold over bytes, on the fixnum calls
 //! - `wider`: how the answers to one fixnum call at two widths agree
 
 pub mod conversion;
 pub mod fixnum;
 mod fixnum_results;
+pub mod fold;
 pub mod integer;
 pub mod limb_results;
 pub mod limbs;

@@ -6,7 +6,7 @@ use borrow.Author.Needs.{needs}
 use borrow.Author.Tests.{not-false}
 use Rattle.fxtable.specs.Domains.{isWidth}
 use Rattle.fxtable.proofs.CallLaws.{width-bounds}
-use Rattle.limbstages.specs.Buffer.{number}
+use Rattle.outcomes.specs.Number.{number}
 use Rattle.outcomes.proofs.OutcomeLaws.{failed-by}
 use Rattle.convert.specs.Convert.{toFixnumOutcome}
 use Rattle.convert.proofs.ConvertLaws.{no-word, large-word, small-word}

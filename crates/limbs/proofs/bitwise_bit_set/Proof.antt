@@ -9,7 +9,7 @@ use mir.ValLaws.{toZ-pos}
 use Rattle.bits.specs.Testbit.{testbit}
 use Rattle.outcomes.specs.Outcome.{done}
 use Rattle.limbwords.specs.Value.{value}
-use Rattle.limbstages.specs.Buffer.{number}
+use Rattle.outcomes.specs.Number.{number}
 use Rattle.limbs.specs.Operations.{bitSetOutcome}
 use Rattle.limbstages.proofs.StageLaws.{operand-length}
 use Rattle.limbs.proofs.CheckLaws.{natural-refused, natural-legal}

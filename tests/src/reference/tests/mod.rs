@@ -4,6 +4,8 @@ mod agreement;
 mod carries;
 mod cases;
 mod exactness;
+mod fold_laws;
+mod folds;
 mod forms;
 mod places;
 mod programs;

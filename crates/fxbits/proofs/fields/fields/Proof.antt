@@ -8,7 +8,7 @@ use mir.Syntax.{w64}
 use mir.Val.{toZ, ofZ}
 use Rattle.bits.specs.Field.{bitField, copyBitField, rotateBitField, reverseBitField}
 use Rattle.words.proofs.FieldWords.{copyBitField-put}
-use Rattle.words.proofs.RotateWords.{bitField-number, rotate-put, reverse-put}
+use Rattle.words.proofs.RotateWords.{bitField-number, reverse-put}
 use Rattle.words.proofs.WordLaws.{back, back-word}
 use Rattle.fxtable.specs.Domains.{arg, domainAt}
 use Rattle.fxtable.specs.Table.{rows, rowOf}
@@ -72,30 +72,20 @@ low-bits-requires c κs = omega (arith, bounds (c .before .before))
 copy-bit-field-requires : tie.Need-copy-bit-field-requires
 copy-bit-field-requires c κs = bounds (c .before .before .before)
 
+rotate-bit-field-requires : tie.Need-rotate-bit-field-requires
+rotate-bit-field-requires c κs = let b = bounds (c .before .before .before) in (b .0, b .1, count c .1)
+
 bit-field-requires-2 : tie.Need-bit-field-requires-2
-bit-field-requires-2 c κs = bounds (c .before .before .before)
-
-sub-rotate : tie.Need-sub-rotate
-sub-rotate c = bounds (c .before .before .before .before) .0
-
-rotate-requires : tie.Need-rotate-requires
-rotate-requires c κs =
-    (omega (arith, bounds (c .before .before .before .before)), count (c .before) .1, field-lt _ _ _ (c .bit-field2 .ensures))
-
-copy-bit-field-requires-2 : tie.Need-copy-bit-field-requires-2
-copy-bit-field-requires-2 c κs = bounds (c .before .before .before .before .before)
-
-bit-field-requires-3 : tie.Need-bit-field-requires-3
-bit-field-requires-3 c κs = bounds (c .before)
+bit-field-requires-2 c κs = bounds (c .before)
 
 sub-reverse : tie.Need-sub-reverse
 sub-reverse c = bounds (c .before .before) .0
 
 reverse-requires : tie.Need-reverse-requires
-reverse-requires c κs = (omega (arith, bounds (c .before .before)), field-lt _ _ _ (c .bit-field3 .ensures))
+reverse-requires c κs = (omega (arith, bounds (c .before .before)), field-lt _ _ _ (c .bit-field2 .ensures))
 
-copy-bit-field-requires-3 : tie.Need-copy-bit-field-requires-3
-copy-bit-field-requires-3 c κs = bounds (c .before .before .before)
+copy-bit-field-requires-2 : tie.Need-copy-bit-field-requires-2
+copy-bit-field-requires-2 c κs = bounds (c .before .before .before)
 
 returns : tie.Need-returns
 unfolding arg rows rowOf
@@ -119,12 +109,10 @@ returns-2 c =
 returns-3 : tie.Need-returns-3
 unfolding arg rows rowOf
 returns-3 c =
-    let r = c .before .before in
-    let k = r .before .before in
+    let k = c .before .before in
     let a = k .before .before .before in
-    done-never _ (c .done3 .ensures) (c .before .copy-bit-field2 .ok)
-    (c .before .copy-bit-field2 .ensures
-    ∙ rotate-put _ _ _ _ (r .before .bit-field2 .ensures) (r .rotate .ensures)
+    done-never _ (c .done3 .ensures) (c .before .rotate-bit-field .ok)
+    (c .before .rotate-bit-field .ensures
     ∙ ap (rotateBitField _ _ _) (count k .0)
     ∙ on-field a (λ x s e. rotateBitField x s e (arg (start a .args .t3) 3)))
     ∙ four-outcome (λ v x s e y. rotateBitField x (natAbs s) (natAbs e) y) (ap rowOf (k .before .before .match .keys3)) (start a .pre .0)
@@ -136,9 +124,9 @@ returns-4 c =
     let a = r .before .before .before in
     let l : 36 < start a .args .code = omega arith in
     let e : start a .args .code ≡ 41 = omega (arith, start a .pre .1 .2 l) in
-    done-never _ (c .done4 .ensures) (c .before .copy-bit-field3 .ok)
-    (c .before .copy-bit-field3 .ensures
-    ∙ reverse-put _ _ _ (r .before .bit-field3 .ensures) (r .reverse .ensures)
+    done-never _ (c .done4 .ensures) (c .before .copy-bit-field2 .ok)
+    (c .before .copy-bit-field2 .ensures
+    ∙ reverse-put _ _ _ (r .before .bit-field2 .ensures) (r .reverse .ensures)
     ∙ on-field a reverseBitField)
     ∙ three-outcome (λ v x s e. reverseBitField x (natAbs s) (natAbs e)) (ap rowOf e) (start a .pre .0)
 
@@ -161,15 +149,12 @@ fields-spec =
     (λ c κs. search needs)
     (λ c. search needs)
     (λ c κs. search needs)
-    bit-field-requires-2
-    sub-rotate
-    rotate-requires
-    copy-bit-field-requires-2
+    rotate-bit-field-requires
     (λ c κs. search needs)
-    bit-field-requires-3
+    bit-field-requires-2
     sub-reverse
     reverse-requires
-    copy-bit-field-requires-3
+    copy-bit-field-requires-2
     (λ c κs. search needs)
     returns
     returns-2

@@ -1,0 +1,9 @@
+pub mod OpenLaws
+pub mod CallLaws
+pub mod JoinLaws
+pub mod IntegerFold
+pub mod ByteLaws
+pub mod FourLaws
+pub mod RunLaws
+pub mod CountLaws
+pub mod Cases

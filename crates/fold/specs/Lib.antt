@@ -1,0 +1,3 @@
+pub mod Fold
+pub mod Calls
+pub mod Inner

@@ -1,0 +1,1 @@
+// No functions: theorems about whole runs of the fold's calls.

@@ -1,0 +1,3 @@
+// Input that is read, answers that are written, and what is said where that fails.
+pub mod read;
+pub mod write;
