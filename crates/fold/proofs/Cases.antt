@@ -10,7 +10,7 @@ use Rattle.bits.specs.Shift.{floorDiv, shiftRight}
 use Rattle.bits.specs.Division.{modℕ}
 use Rattle.bits.specs.Field.{inField, setField, permuteField, rotateIndex, rotateBitField}
 use Rattle.bits.specs.Range.{within}
-use Rattle.outcomes.specs.Outcome.{Outcome, done, refuse, guard, guardAt}
+use Rattle.outcomes.specs.Outcome.{done, refuse, guard, guardAt}
 use Rattle.outcomes.specs.Tests.{allHold, firstFailedFrom, firstFailed, guardEach}
 use Rattle.fxtable.specs.Domains.{leastWidth, largestWidth, isWidth, arg, accepts, domainTestsFrom, domainTests}
 use Rattle.fxtable.specs.Operations.{resultsOf}
@@ -18,7 +18,7 @@ use Rattle.fxtable.specs.Table.{rows, isCode, rowOf}
 use Rattle.fxtable.specs.Calls.{answer, counted, isCount, fixnumTests, checked, outcome, fixnumAnswer, answerOf}
 use Rattle.fold.specs.declared.Fold.{Fold}
 use Rattle.fold.specs.Fold.{settings, withAccumulator, rotation, isOpen, xored, foldByte, foldBytes}
-use Rattle.fold.specs.Calls.{zeros, opened, opening, after, folding, readOutcome, netCount, joined, joining}
+use Rattle.fold.specs.Calls.{zeros, opened, opening, after, folding, readOutcome, identifier, netCount, joined, joining}
 
 abbrev neg : ℕ → ℤ
 neg n = negℤ (pos n)
@@ -30,10 +30,6 @@ abc = 97 ∷ 98 ∷ 99 ∷ []
 -- width 24, field 0 to 23, count 5
 abbrev at : ℤ → Fold
 at a = settings 24 (pos 0) (pos 23) (pos 5) a
-
--- what reading answers after opening and one chunk
-abbrev identifier : ℕ → ℤ → ℤ → ℤ → ℤ → List ℕ → Outcome ℤ
-identifier w start end count a bs = readOutcome (folding (opening (settings w start end count a) .fold) bs .fold)
 
 -- opening with these fields, in the order of their places, gives this refusal for this place, and a record of zeros
 abbrev refuses : ℕ → ℤ → ℤ → ℤ → ℤ → ℕ → ℕ → Type 0
@@ -63,7 +59,7 @@ unfolding isNegative odd testbit halvings bitLength fits fill consBit ofBits bit
     shiftRight modℕ inField setField permuteField rotateIndex rotateBitField within guard guardAt allHold guardEach leastWidth
     largestWidth isWidth arg accepts domainTestsFrom domainTests resultsOf rows isCode rowOf answer counted isCount fixnumTests checked
     outcome fixnumAnswer answerOf settings withAccumulator rotation isOpen xored foldByte foldBytes zeros opened opening after folding
-    readOutcome
+    readOutcome identifier
 cases-identifiers = (refl, refl, refl, refl, refl, refl, refl, refl, refl, refl, refl)
 
 pub cases-refused :
@@ -100,6 +96,8 @@ pub cases-pieces :
     -- a net count of 0: of 23 bytes, and of any number of bytes where the count is the size
     × (joining (at (pos 3138)) (pos 1) 23 ≡ after 0 (at (pos 3139)))
     × (joining (settings 24 (pos 0) (pos 23) (pos 23) (pos 6)) (pos 1) 18446744073709551614 ≡ after 0 (settings 24 (pos 0) (pos 23) (pos 23) (pos 7)))
+    -- a field that does not begin at 0: five rotations by 4 are one by 6
+    × (joining (settings 24 (pos 3) (pos 17) (pos 4) (pos 74565)) (pos 1154) 5 ≡ after 0 (settings 24 (pos 3) (pos 17) (pos 4) (pos 54695)))
     -- an empty field
     × (joining (settings 24 (pos 7) (pos 7) (pos 0) (pos 6)) (neg 1) 5 ≡ after 0 (settings 24 (pos 7) (pos 7) (pos 0) (neg 7)))
     -- a piece that is no fixnum
@@ -108,4 +106,4 @@ unfolding isNegative odd testbit halvings bitLength fits fill consBit ofBits bit
     shiftRight modℕ inField setField permuteField rotateIndex rotateBitField within guard guardAt allHold guardEach leastWidth
     largestWidth isWidth arg accepts domainTestsFrom domainTests resultsOf rows isCode rowOf answer counted isCount fixnumTests checked
     outcome fixnumAnswer answerOf settings withAccumulator rotation isOpen after netCount joined joining
-cases-pieces = (refl, refl, refl, refl, refl)
+cases-pieces = (refl, refl, refl, refl, refl, refl)

@@ -1,13 +1,14 @@
 -- What the calls on the record answer, and the record afterwards.
---   zeros             ==  the record of a refused opening
---   opened a          ==  the refusal and the place of an answer
---   opening f         ==  opening with the fields of f: refused as their rotation is, for the same place, and then the record is zeros
---   after k f         ==  the refusal number k, and the record f
---   folding f bs      ==  a chunk: refusal 9, and nothing changed, where opening with the record's own fields would be refused
---   readOutcome f     ==  the accumulator, or refusal 9
---   netCount f n      ==  the count of one rotation that equals n of the record's: 0 where the field is empty
---   joined f piece n  ==  code 28's answer to the accumulator, rotated by the net count, and the piece
---   joining f piece n ==  a piece of n bytes, folded from 0 by the same settings: refusal 9 as for a chunk, and 4 where it is no fixnum
+--   zeros                              ==  the record of a refused opening
+--   opened a                           ==  the refusal and the place of an answer
+--   opening f                          ==  opening with the fields of f: refused as their rotation is, for the same place, and then the record is zeros
+--   after k f                          ==  the refusal number k, and the record f
+--   folding f bs                       ==  a chunk: refusal 9, and nothing changed, where opening with the record's own fields would be refused
+--   readOutcome f                      ==  the accumulator, or refusal 9
+--   identifier w start end count a bs  ==  what reading answers, after opening with these settings and one chunk
+--   netCount f n                       ==  the count of one rotation that equals n of the record's: 0 where the field is empty
+--   joined f piece n                   ==  code 28's answer to the accumulator, rotated by the net count, and the piece
+--   joining f piece n                  ==  a piece of n bytes, folded from 0 by the same settings: refusal 9 as for a chunk, and 4 where it is no fixnum
 use Prim.Native.Nat.{ℕ, _*_, _-_, _%_}
 use mathlib.Core.Bool.{cond}
 use mathlib.Core.List.{List, [], _∷_}
@@ -39,6 +40,9 @@ folding f bs = cond (isOpen f) (after 0 (foldBytes f bs)) (after 9 f)
 
 unfoldable pub readOutcome : Fold → Outcome ℤ
 readOutcome f = guard (isOpen f) 9 (done (f .accumulator))
+
+unfoldable pub identifier : ℕ → ℤ → ℤ → ℤ → ℤ → List ℕ → Outcome ℤ
+identifier w start end count a bs = readOutcome (folding (opening (settings w start end count a) .fold) bs .fold)
 
 unfoldable pub netCount : Fold → ℕ → ℕ
 netCount f n = let size = natAbs (f .end) - natAbs (f .start) in cond (eqb size 0) 0 (natAbs (f .count) * n % size)

@@ -11,10 +11,9 @@ use Rattle.outcomes.specs.Outcome.{done}
 use Rattle.fxtable.specs.Domains.{isWidth}
 use Rattle.fixnum_laws.proofs.WidthLaws.{wider-done}
 use Rattle.fold.specs.declared.Fold.{Fold}
-use Rattle.fold.specs.Fold.{fields, settings, withAccumulator, isOpen}
+use Rattle.fold.specs.Fold.{AllBytes, fields, settings, withAccumulator, isOpen}
 use Rattle.fold.specs.Calls.{folding, joining}
 use Rattle.fold.proofs.OpenLaws.{open-done, done-open, open-xor}
-use Rattle.fold.specs.Fold.{AllBytes}
 use Rattle.fold_laws.specs.Identifiers.{xorBytes, FoldStatement}
 use Rattle.fold_laws.proofs.IntegerLaws.{accumulate-linear, accumulate-injective, one-byte}
 use Rattle.fold_laws.proofs.Runs.{accumulated-fits, same-settings, any-cutting, same-refusal}

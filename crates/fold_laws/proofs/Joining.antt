@@ -8,12 +8,11 @@ use lib.ListN.{length}
 use Rattle.bits.specs.Testbit.{fits}
 use Rattle.bits.specs.Logical.{bitwiseXor}
 use Rattle.fold.specs.declared.Fold.{Fold}
-use Rattle.fold.specs.Fold.{withAccumulator, isOpen}
+use Rattle.fold.specs.Fold.{AllBytes, withAccumulator, isOpen}
 use Rattle.fold.specs.Calls.{after, folding, netCount, joined, joining}
 use Rattle.fold.proofs.CallLaws.{not-open-folding, not-open-joining}
 use Rattle.fold.proofs.JoinLaws.{rotatedBy, joining-open}
 use Rattle.fold.proofs.OpenLaws.{open-field}
-use Rattle.fold.specs.Fold.{AllBytes}
 use Rattle.fold.proofs.IntegerFold.{accumulate, accumulate-joined}
 use Rattle.fold.proofs.ByteLaws.{accumulated, foldBytes-is}
 use Rattle.fold_laws.proofs.Runs.{folding-open}

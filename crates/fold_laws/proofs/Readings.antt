@@ -8,10 +8,8 @@ use Rattle.outcomes.specs.Outcome.{done, refuse}
 use Rattle.outcomes.proofs.OutcomeLaws.{passed, refused-done, done-injective}
 use Rattle.fold.specs.declared.Fold.{Fold}
 use Rattle.fold.specs.declared.Folding.{Folding}
-use Rattle.fold.specs.Fold.{settings, withAccumulator, isOpen, foldBytes}
-use Rattle.fold.specs.Calls.{zeros, opening, after, folding, readOutcome}
-use Rattle.fold.specs.Fold.{AllBytes}
-use Rattle.fold_laws.specs.Identifiers.{identifier}
+use Rattle.fold.specs.Fold.{AllBytes, settings, withAccumulator, isOpen, foldBytes}
+use Rattle.fold.specs.Calls.{zeros, opening, after, folding, readOutcome, identifier}
 use Rattle.fold.proofs.IntegerFold.{accumulate}
 use Rattle.fold.proofs.ByteLaws.{foldBytes-is, open-bytes}
 use Rattle.fold_laws.proofs.Runs.{folding-open}

@@ -1,9 +1,8 @@
 -- What users rely on of the fold's calls: however the bytes are cut, and whatever the pieces.
---   concatenated bss                    ==  the bytes of all chunks, one after the other
---   afterChunks f bss                   ==  the record after a call for each chunk
---   xorBytes xs ys                      ==  the bytewise xor of two strings
---   identifier w start end count a bs   ==  what reading answers, after opening with these settings and one chunk
---   FoldStatement w start end count     ==  what holds of the identifiers under these settings
+--   concatenated bss                 ==  the bytes of all chunks, one after the other
+--   afterChunks f bss                ==  the record after a call for each chunk
+--   xorBytes xs ys                   ==  the bytewise xor of two strings
+--   FoldStatement w start end count  ==  what holds of the identifiers under these settings
 use Prim.Native.Nat.{ℕ, _≤_, _<_}
 use mathlib.Core.Path.{_≡_}
 use mathlib.Core.Bool.{true}
@@ -11,12 +10,12 @@ use mathlib.Core.List.{List, [], _∷_, _++_}
 use lib.Bits.{bitXor}
 use lib.IntN.{ℤ, pos}
 use lib.ListN.{length}
-use Rattle.outcomes.specs.Outcome.{Outcome, done}
+use Rattle.outcomes.specs.Outcome.{done}
 use Rattle.fxtable.specs.Domains.{isWidth}
 use Rattle.fxtable.specs.Calls.{answer, answerOf}
 use Rattle.fold.specs.declared.Fold.{Fold}
 use Rattle.fold.specs.Fold.{AllBytes, settings}
-use Rattle.fold.specs.Calls.{opening, folding, readOutcome, joining}
+use Rattle.fold.specs.Calls.{folding, identifier, joining}
 
 unfoldable pub concatenated : List (List ℕ) → List ℕ
 concatenated [] = []
@@ -30,9 +29,6 @@ unfoldable pub xorBytes : List ℕ → List ℕ → List ℕ
 xorBytes [] ys = []
 xorBytes (x ∷ xs) [] = []
 xorBytes (x ∷ xs) (y ∷ ys) = bitXor x y ∷ xorBytes xs ys
-
-unfoldable pub identifier : ℕ → ℤ → ℤ → ℤ → ℤ → List ℕ → Outcome ℤ
-identifier w start end count a bs = readOutcome (folding (opening (settings w start end count a) .fold) bs .fold)
 
 pub record FoldStatement (w : ℕ) (start end count : ℤ) : Type 0 where
   -- any cutting of the same bytes, empty chunks too, leaves the record of one uncut run

@@ -1,4 +1,4 @@
-// Files by name, one after the other.
+// Files by name, one after the other. The name - is standard input's.
 use super::input::Folded;
 use super::input::fold_all;
 use fold::Fold;
@@ -7,14 +7,21 @@ use foldcalls::settings::Settings;
 use foldcalls::settings::open;
 use line::count;
 use line::count_past;
+use line::is_word;
 use line::reply::DONE;
 use line::reply::TROUBLE;
 use line::reply::worse;
 use line::trouble::put_file_name;
 use line::word;
 use output::put;
+use streams::read::INPUT;
 use streams::write::report;
+use streams::write::report_input;
 use streams::write::write_out;
+
+fn is_input(line: &[u8], i: usize) -> bool {
+    is_word(line, i, b"-")
+}
 
 // The usual causes, in words.
 fn put_cause(error: i32, out: &mut [u8], at: usize) -> usize {
@@ -32,6 +39,10 @@ fn report_file(good: bool, line: &[u8], i: usize, out: &mut [u8]) {
     if good {
         return;
     }
+    if is_input(line, i) {
+        report_input();
+        return;
+    }
     let error = os::errno();
     let at = put(b"ql: '", out, 0);
     let at = put_file_name(line, i, out, at);
@@ -46,6 +57,9 @@ fn report_file(good: bool, line: &[u8], i: usize, out: &mut [u8]) {
 }
 
 fn open_file(line: &[u8], i: usize) -> i32 {
+    if is_input(line, i) {
+        return INPUT;
+    }
     let word = word(line, i);
     let start = word.start;
     let end = word.end;
@@ -65,7 +79,9 @@ fn fold_file(line: &[u8], i: usize, first: Fold, buffer: &mut [u8], out: &mut [u
     }
     let folded = fold_all(fd, buffer, first);
     report_file(folded.good, line, i, out);
-    libc::close(fd);
+    if !is_input(line, i) {
+        libc::close(fd);
+    }
     folded
 }
 

@@ -203,8 +203,8 @@ An identifier of bytes, those of standard input or of each file. For each byte t
 START up to, but not at, END rotated by COUNT, as by fxrotate-bit-field, and is then xored with the byte. The last accumulator is the
 identifier. It does not depend on how the bytes come in pieces, nor on the width, as long as the width is accepted. The word after COUNT is
 the accumulator at the start where it is a number; otherwise that is 0, and the word is the first file. A file whose name is a number is
-written ./5. Of several files, each line ends with the name. The exit status is 1 where the settings are refused; nothing is read
-then. It is 2 where a file cannot be read; the others are still answered.
+written ./5, and - is standard input. Of several files, each line ends with the name. The exit status is 1 where the settings are refused;
+nothing is read then. It is 2 where a file cannot be read; the others are still answered.
 ",
         out,
         0,
