@@ -1,25 +1,27 @@
 /* Quebralua: the R6RS fixnum operations at any width from 24 to 64, the R6RS bitwise operations on integers in 32-bit
-   limbs, the conversions between the two, and the running fold that makes an identifier of bytes. Link libquebralua.a,
-   which `rt staticlib quebralua` writes.
+   limbs, the conversions between the two, the running fold that makes an identifier of bytes, and stored rules. Link
+   libquebralua.a, which `rt staticlib quebralua` writes.
 
    Every call returns, whatever numbers come in. An answer begins with a refusal number:
 
      0  done
      1  the width is below 24 or above 64
      2  the code is not 1 to 41
-     3  the argument count is not allowed for the code
-     4  a counted argument, the number to convert, the accumulator or a piece is not a fixnum at the width; never at
-        width 64, where each int64_t is one
+     3  the argument count is not allowed for the code, or the inputs of a rule are not sixteen
+     4  a counted argument, the number to convert, the accumulator, a piece, or a constant or an input of a rule is not a
+        fixnum at the width; never at width 64, where each int64_t is one
      5  a divisor, position, field, distance, count or new bit is outside its domain;
         or the exact result of fx- is not a fixnum
      6  the exact result is not a fixnum, or a shift's result would have more than 1,024 limbs
      7  an operand has no limb, or more than 1,024
      8  the result is longer than the capacity of the output buffer
      9  the fold is not open
+    10  the bytes are not a stored rule
 
    The first that holds is given, in this order: fixnum calls 1, 2, 3, 4, 5, 6; limb calls 7, 5, 6, 8; limbs to fixnum
-   1, 7, 6; fixnum to limbs 1, 4, 8; opening a fold 1, 4, 5; its other calls 9, 4. A refused call answers 0 for every
-   result and length, and writes no limb of the output buffer. It leaves a fold as it was, unless it is an opening.
+   1, 7, 6; fixnum to limbs 1, 4, 8; opening a fold 1, 4, 5; its other calls 9, 4. Reading a rule gives 10 alone; its evaluation
+   3, 10, and then what it meets first of 4, 5, 6. A refused call answers 0 for every result and length, and writes no
+   limb of the output buffer. It leaves a fold as it was, unless it is an opening.
 
    The `place` of a fixnum answer says which argument refusal 4 or 5 is about, 1 for a to 4 for d. For 4 it is the first
    counted argument that is not a fixnum; for 5 the first, left to right, that is outside its domain, given those before
@@ -27,8 +29,8 @@
    `place` of an opening is that of its fxrotate-bit-field: accumulator 1, start 2, end 3, count 4.
 
    What a caller owes:
-   - Each operand pointer is valid for reading its length in limbs, or in bytes for a chunk, and `out` for writing `nout`
-     limbs. NULL is fine where the length is 0. A `ql_fold *` is never NULL.
+   - Each operand pointer is valid for reading its length in limbs, in bytes for a chunk or a rule, or in numbers for the
+     inputs of a rule, and `out` for writing `nout` limbs. NULL is fine where the length is 0. A `ql_fold *` is never NULL.
    - The output buffer overlaps no operand, and a fold none of the bytes of its chunk. Operands may overlap each other.
    - No other thread writes these limbs, bytes or folds during the call, nor reads a fold that the call changes. The
      library keeps no state and no pointer between calls. */
@@ -174,6 +176,31 @@ ql_value ql_fold_read(const ql_fold *fold);
 /* As if n more bytes had been folded, of which only `piece` is known: what they give in a fold of the same settings that
    was opened with accumulator 0. So pieces may be folded side by side. Returns the refusal number: 0, 4 or 9. */
 uint64_t ql_fold_join(ql_fold *fold, int64_t piece, uint64_t n);
+
+/* Stored rules.
+
+   A rule is bytes: a width, and then one form. A form is 0 and a constant; or 1 and the index of an input, 0 to 15; or 2,
+   a code, an argument count and that many forms. Each of these numbers is LEB128, in the shortest form: groups of seven
+   bits, the least significant first, with 128 added to each byte but the last. Constants are signed numbers of 64 bits in
+   two's complement, of at most ten groups; the others are unsigned, of at most nine. The width is 24 to 64, or 0, which
+   means 30. The code is one of a fixnum operation with one result: not 18, nor 21 to 24. Forms are nested at most 32 deep,
+   one without arguments being 1 deep. A rule has at most 4,096 bytes, and nothing after its form.
+
+   All else is refused 10 with the offset where the earliest offending item begins: a number or a tag that is none of
+   these, a form at depth 33 where its tag would begin, the byte after the form, 4,096 for too many bytes; or the length
+   of the rule where it ends early. A number that the end cuts off ends early, if it has not all the groups that it may
+   have. `offset` is 0 in every other answer. */
+typedef struct { uint64_t refusal; uint64_t offset; uint64_t width; } ql_rule_read_answer;
+typedef struct { uint64_t refusal; uint64_t place; uint64_t offset; int64_t value; } ql_rule_answer;
+
+/* Reads a rule and runs nothing of it. `width` is the one that the rule runs at. */
+ql_rule_read_answer ql_rule_read(const uint8_t *rule, size_t n);
+
+/* The value of a rule for sixteen inputs: `ninputs` is 16. The whole rule is read before any of it is run. A constant or an
+   input is looked at when evaluation comes to it, and must be a fixnum at the rule's width: else 4, with place 0. The
+   arguments of a call are evaluated from left to right, all of them, and then the call is made as ql_fixnum makes it. The
+   first refusal is the rule's, with the place of the call that it is met in. Inputs that the rule does not name have no influence. */
+ql_rule_answer ql_rule_evaluate(const uint8_t *rule, size_t n, const int64_t *inputs, size_t ninputs);
 
 #ifdef __cplusplus
 }

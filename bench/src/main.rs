@@ -16,7 +16,12 @@ mod limb_case;
 mod plain_fixnum;
 mod plain_fold;
 mod plain_limbs;
+mod plain_rule;
 mod random;
+mod rule_case;
+mod rule_compare;
+mod rule_draw;
+mod rule_form;
 mod tables;
 mod timing;
 
@@ -24,6 +29,7 @@ use std::rc::Rc;
 
 use fold_case::FoldCases;
 use random::Random;
+use rule_case::RuleCases;
 use tables::LimbCases;
 
 const SEED: u64 = 20_261_115;
@@ -36,10 +42,13 @@ fn main() {
     let mut limbs = limb_cases(&mut random);
     let mut fixnums = fixnum_case::cases(&mut random);
     let mut folds = fold_case::cases(&mut random);
+    let mut rules = rule_case::cases(&mut random);
     for _ in 0..SWEEPS {
         let lengths = [&mut limbs.one, &mut limbs.medium, &mut limbs.long, &mut limbs.short_results];
         let fixnums = fixnums.iter_mut().map(|row| &mut row.case);
-        for case in lengths.into_iter().flatten().chain(fixnums).chain(folds.iter_mut().flat_map(FoldCases::all)) {
+        let folds = folds.iter_mut().flat_map(FoldCases::all);
+        let rules = rules.iter_mut().flat_map(RuleCases::both);
+        for case in lengths.into_iter().flatten().chain(fixnums).chain(folds).chain(rules) {
             case.measure();
         }
     }
@@ -49,7 +58,9 @@ fn main() {
     println!();
     tables::folds(&folds);
     println!();
-    tables::aims(&limbs, &fixnums, &folds);
+    tables::rules(&rules);
+    println!();
+    tables::aims(&limbs, &fixnums, &folds, &rules);
 }
 
 fn limb_cases(random: &mut Random) -> LimbCases {

@@ -2,6 +2,8 @@
 
 use crate::fixnum_case::FixnumCase;
 use crate::fold_case::{FoldCases, LONGEST};
+use crate::rule_case::RuleCases;
+use crate::rule_draw::SIZES;
 use crate::timing::Case;
 
 /// The cases of the limb calls, in the same order at each length.
@@ -34,6 +36,12 @@ const FIXNUM_AIM: f64 = 3.0;
 
 /// How many times plain Rust's time a chunk may take.
 const FOLD_AIM: f64 = 1.2;
+
+/// How many times plain Rust's time a rule may take.
+const RULE_AIM: f64 = 3.0;
+
+/// How many times the least time for a byte the others of the same shape may take.
+const LINEAR_AIM: f64 = 1.5;
 
 pub fn limbs(cases: &LimbCases) {
     println!("### Limb calls\n");
@@ -73,7 +81,23 @@ pub fn folds(rows: &[FoldCases]) {
     }
 }
 
-pub fn aims(limbs: &LimbCases, fixnums: &[FixnumCase], folds: &[FoldCases]) {
+pub fn rules(rows: &[RuleCases]) {
+    println!("### Stored rules\n");
+    println!(
+        "| Forms | Shape | Bytes | Rust, read | Rust, evaluate | Read, ns a byte | Evaluate, ns a byte | \
+         Evaluate, ns a form |"
+    );
+    println!("|--:|---|--:|--:|--:|--:|--:|--:|");
+    for RuleCases { shape, forms, bytes, read, evaluate } in rows {
+        let ratios = [read, evaluate].map(|case| fine(case.over_plain())).join(" | ");
+        let times =
+            [read.nanoseconds() / bytes, evaluate.nanoseconds() / bytes, evaluate.nanoseconds() / *forms as f64];
+        let (forms, bytes) = (counted(*forms), counted(bytes.round() as usize));
+        println!("| {forms} | {} | {bytes} | {ratios} | {} |", shape.name(), times.map(fine).join(" | "));
+    }
+}
+
+pub fn aims(limbs: &LimbCases, fixnums: &[FixnumCase], folds: &[FoldCases], rules: &[RuleCases]) {
     let fixnums = fixnums.iter().map(|row| &row.case);
     let aimed = || limbs.long.iter().filter(|case| LIMB_AIM_CALLS.contains(&case.name.as_str()));
     let gmp = |case: &Case| case.over_gmp().unwrap_or(f64::INFINITY);
@@ -94,12 +118,43 @@ pub fn aims(limbs: &LimbCases, fixnums: &[FixnumCase], folds: &[FoldCases]) {
         missed(long, Case::over_plain, FOLD_AIM)
     );
     println!("| Chunks of 16 and 256 bytes: the same | {} |", missed(short, Case::over_plain, FOLD_AIM));
+    rule_aims(rules);
+}
+
+fn rule_aims(rows: &[RuleCases]) {
+    let evaluations = rows.iter().map(|row| &row.evaluate);
+    let readings = rows.iter().map(|row| &row.read);
+    println!("| Evaluating rules: within 3 times plain Rust | {} |", missed(evaluations, Case::over_plain, RULE_AIM));
+    println!("| Reading rules: the same | {} |", missed(readings, Case::over_plain, RULE_AIM));
+    let evaluate = |row: &RuleCases| row.evaluate.nanoseconds() / row.bytes;
+    let read = |row: &RuleCases| row.read.nanoseconds() / row.bytes;
+    println!(
+        "| Evaluating a byte: at every size within 1.5 times the least of the shape | {} |",
+        uneven(rows, evaluate)
+    );
+    println!("| Reading a byte: the same | {} |", uneven(rows, read));
+}
+
+/// The shapes of which the time differs more between sizes, each with the ratio of the greatest and the least.
+fn uneven(rows: &[RuleCases], time: impl Fn(&RuleCases) -> f64) -> String {
+    let ratios = rows.chunks(SIZES.len()).map(|rows| {
+        let times = || rows.iter().map(&time);
+        (rows[0].shape, times().fold(0.0, f64::max) / times().fold(f64::INFINITY, f64::min))
+    });
+    listed(
+        ratios
+            .filter(|&(_, ratio)| ratio > LINEAR_AIM)
+            .map(|(shape, ratio)| format!("{} {}", shape.name(), fine(ratio))),
+    )
 }
 
 /// The cases above the aim, each with its ratio.
 fn missed<'a>(cases: impl Iterator<Item = &'a Case>, of: impl Fn(&Case) -> f64, aim: f64) -> String {
-    let misses: Vec<String> =
-        cases.filter(|case| of(case) > aim).map(|case| format!("{} {}", case.name, fine(of(case)))).collect();
+    listed(cases.filter(|case| of(case) > aim).map(|case| format!("{} {}", case.name, fine(of(case)))))
+}
+
+fn listed(misses: impl Iterator<Item = String>) -> String {
+    let misses: Vec<String> = misses.collect();
     if misses.is_empty() {
         "none".to_string()
     } else {
@@ -116,6 +171,14 @@ fn ratio(value: f64) -> String {
         format!("{value:.2}")
     } else {
         format!("{value:.1}")
+    }
+}
+
+/// A number below a million, with a comma at the thousands.
+fn counted(number: usize) -> String {
+    match number {
+        0..1000 => number.to_string(),
+        _ => format!("{},{:03}", number / 1000, number % 1000),
     }
 }
 

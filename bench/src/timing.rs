@@ -15,7 +15,7 @@ pub struct Side {
     inputs: usize,
     passes: u32,
     /// Nanoseconds for one call, in the quickest round so far.
-    least: f64,
+    pub least: f64,
 }
 
 impl Side {
@@ -31,7 +31,7 @@ impl Side {
     }
 
     /// Finds how many passes make a round.
-    fn calibrate(&mut self) {
+    pub fn calibrate(&mut self) {
         self.passes = 1;
         while self.run() < ROUND {
             self.passes *= 2;
@@ -46,7 +46,7 @@ impl Side {
         start.elapsed()
     }
 
-    fn round(&mut self) {
+    pub fn round(&mut self) {
         let calls = f64::from(self.passes) * self.inputs as f64;
         self.least = self.least.min(self.run().as_nanos() as f64 / calls);
     }

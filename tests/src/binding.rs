@@ -17,6 +17,7 @@ pub enum Refusal {
     Operand = 7,
     Room = 8,
     Unopened = 9,
+    Rule = 10,
 }
 
 /// The answer of a fixnum call. Refusal 0 is done; an operation with one result has 0 in `second`. The place is that of
@@ -98,19 +99,62 @@ pub struct Folded {
     pub refusal: u64,
 }
 
+/// How many inputs a rule is evaluated on.
+pub const INPUTS: usize = 16;
+
+/// The answer of a rule's evaluation. Refusal 0 is done. Place and offset are those of `RuleRefusal`, or 0 for none.
+#[derive(Clone, Copy, Debug, PartialEq, Eq)]
+#[repr(C)]
+pub struct RuleAnswer {
+    pub refusal: u64,
+    pub place: u64,
+    pub offset: u64,
+    pub value: i64,
+}
+
+/// The answer of a rule's reading: the width that it runs at. Refusal 0 is done. The offset is that of `RuleRefusal`, or
+/// 0 for none.
+#[derive(Clone, Copy, Debug, PartialEq, Eq)]
+#[repr(C)]
+pub struct RuleReadAnswer {
+    pub refusal: u64,
+    pub offset: u64,
+    pub width: u64,
+}
+
+/// Why a rule is refused, and where.
+#[derive(Clone, Copy, Debug, PartialEq, Eq)]
+pub struct RuleRefusal {
+    pub refusal: Refusal,
+    /// The place of the call that is refused, as in `FixnumRefusal`. None for a constant or an input that is no fixnum.
+    pub place: Option<u64>,
+    /// With `Rule`, and no other refusal: where the first item begins that is not allowed, or the rule's length if the
+    /// rule ends early.
+    pub offset: Option<u64>,
+}
+
 impl Refusal {
-    /// The refusal with this number, which is 1 to 9.
+    /// The refusal with this number, which is 1 to 10.
     fn from_number(number: u64) -> Refusal {
         use Refusal::*;
-        let all = [Width, Code, ArgumentCount, NotFixnum, Domain, Size, Operand, Room, Unopened];
+        let all = [Width, Code, ArgumentCount, NotFixnum, Domain, Size, Operand, Room, Unopened, Rule];
         all[number as usize - 1]
     }
 }
 
 impl FixnumRefusal {
-    /// The refusal with this number, which is 1 to 9, and this place, or none if it is 0.
+    /// The refusal with this number, which is 1 to 10, and this place, or none if it is 0.
     fn from_numbers(number: u64, place: u64) -> FixnumRefusal {
         FixnumRefusal { refusal: Refusal::from_number(number), place: (place != 0).then_some(place) }
+    }
+}
+
+impl RuleRefusal {
+    /// The refusal with this number, which is 1 to 10. A place of 0 is none, and so is an offset with another refusal.
+    fn from_numbers(number: u64, place: u64, offset: u64) -> RuleRefusal {
+        let refusal = Refusal::from_number(number);
+        let offset = (refusal == Refusal::Rule).then_some(offset);
+        RuleRefusal { refusal, place: (place != 0).then_some(place), offset }
     }
 }
 
@@ -127,6 +171,30 @@ impl FixnumAnswer {
 impl From<FixnumRefusal> for Refusal {
     fn from(refused: FixnumRefusal) -> Refusal {
         refused.refusal
+    }
+}
+
+impl From<RuleRefusal> for Refusal {
+    fn from(refused: RuleRefusal) -> Refusal {
+        refused.refusal
+    }
+}
+
+impl RuleAnswer {
+    pub fn result(self) -> Result<i64, RuleRefusal> {
+        match self.refusal {
+            0 => Ok(self.value),
+            number => Err(RuleRefusal::from_numbers(number, self.place, self.offset)),
+        }
+    }
+}
+
+impl RuleReadAnswer {
+    pub fn result(self) -> Result<u64, RuleRefusal> {
+        match self.refusal {
+            0 => Ok(self.width),
+            number => Err(RuleRefusal::from_numbers(number, 0, self.offset)),
+        }
     }
 }
 
@@ -287,6 +355,26 @@ pub fn fixnum_to_limbs(width: u64, n: i64, out: &mut [u32], first: u64) -> Writt
     unsafe { ql_fixnum_to_limbs(width, n, write(out), out.len(), first) }
 }
 
+/// Reads a stored rule, and evaluates nothing.
+pub fn rule_read(rule: &[u8]) -> RuleReadAnswer {
+    unsafe { ql_rule_read(read(rule), rule.len()) }
+}
+
+/// Reads a stored rule, and evaluates it on these inputs. Those that it does not name have no influence.
+///
+/// ```ignore
+/// let rule = [24, 2, 13, 2, 1, 3, 0, 0x7E]; // at width 24: (fx+ input-3 -2)
+/// let value = rule_evaluate(&rule, &inputs).result()?;
+/// ```
+pub fn rule_evaluate(rule: &[u8], inputs: &[i64; INPUTS]) -> RuleAnswer {
+    rule_evaluate_any(rule, inputs)
+}
+
+/// The same, on any number of inputs. Refused with `ArgumentCount`, before all else, where there are not sixteen.
+pub fn rule_evaluate_any(rule: &[u8], inputs: &[i64]) -> RuleAnswer {
+    unsafe { ql_rule_evaluate(read(rule), rule.len(), read(inputs), inputs.len()) }
+}
+
 fn read<T>(items: &[T]) -> *const T {
     if items.is_empty() {
         std::ptr::null()
@@ -365,4 +453,6 @@ extern "C" {
     fn ql_fold_chunk(fold: &mut Fold, bytes: *const u8, n: usize) -> Folded;
     fn ql_fold_read(fold: &Fold) -> Value;
     fn ql_fold_join(fold: &mut Fold, piece: i64, n: u64) -> Folded;
+    fn ql_rule_read(rule: *const u8, n: usize) -> RuleReadAnswer;
+    fn ql_rule_evaluate(rule: *const u8, n: usize, inputs: *const i64, ninputs: usize) -> RuleAnswer;
 }

@@ -155,6 +155,11 @@ impl Checker {
         self.edges_every == 1 || self.random.one_in(self.edges_every)
     }
 
+    /// From one chosen edge to the next, where they are numbered: 1 if all of them are compared.
+    pub fn next_chosen(&mut self) -> u64 {
+        1 + self.random.below(2 * self.edges_every - 1)
+    }
+
     /// Counts a call that is about to be made, and prints it if that was asked for.
     pub fn begin(&mut self, call: impl FnOnce() -> String) {
         self.made += 1;

@@ -4,7 +4,9 @@ use quebralua_reference::call::{FixnumCall, LimbCall};
 use quebralua_reference::fold_call::{FoldCall, FoldOperation};
 use quebralua_reference::operation::{Operation, FIXNUM_NAMES};
 use quebralua_reference::reference::fold::Fold;
+use quebralua_reference::reference::rule::Rule;
 use quebralua_reference::reference::width::WIDTHS;
+use quebralua_reference::rule_call::{RuleCall, RuleOperation};
 use std::fmt;
 
 /// How many calls were done, by width.
@@ -19,6 +21,8 @@ pub struct DoneWidths {
     limbs: [Counts; Operation::ALL.len()],
     /// In the order of `FoldOperation::ALL`.
     folds: [Counts; FoldOperation::ALL.len()],
+    /// In the order of `RuleOperation::ALL`, by the width that the rule runs at.
+    rules: [Counts; RuleOperation::ALL.len()],
 }
 
 impl DoneWidths {
@@ -27,6 +31,7 @@ impl DoneWidths {
             fixnum: [NONE; FIXNUM_NAMES.len()],
             limbs: [NONE; Operation::ALL.len()],
             folds: [NONE; FoldOperation::ALL.len()],
+            rules: [NONE; RuleOperation::ALL.len()],
         }
     }
 
@@ -44,6 +49,10 @@ impl DoneWidths {
         self.folds[call.operation() as usize][call.width(record) as usize] += 1;
     }
 
+    pub fn rule(&mut self, rule: &Rule, call: &RuleCall) {
+        self.rules[call.operation() as usize][rule.width() as usize] += 1;
+    }
+
     /// Every operation and accepted width without a done call.
     pub fn missing(&self) -> impl Iterator<Item = String> + '_ {
         self.rows().flat_map(|(name, counts)| {
@@ -57,7 +66,9 @@ impl DoneWidths {
         let limbs = Operation::ALL.into_iter().zip(&self.limbs).filter(|(operation, _)| operation.takes_width());
         let folds = FoldOperation::ALL.into_iter().zip(&self.folds);
         let limbs = limbs.map(|(operation, counts)| (operation.name(), counts));
-        fixnum.chain(limbs).chain(folds.map(|(operation, counts)| (operation.name(), counts)))
+        let folds = folds.map(|(operation, counts)| (operation.name(), counts));
+        let rules = RuleOperation::ALL.into_iter().zip(&self.rules);
+        fixnum.chain(limbs).chain(folds).chain(rules.map(|(operation, counts)| (operation.name(), counts)))
     }
 }
 

@@ -11,3 +11,4 @@ pub mod random;
 pub mod random_arguments;
 pub mod reference;
 pub mod refusal;
+pub mod rule_call;

@@ -5,6 +5,8 @@ use quebralua_reference::call::{FixnumCall, LimbCall};
 use quebralua_reference::fold_call::{FoldAnswer, FoldCall};
 use quebralua_reference::operation::Operation::*;
 use quebralua_reference::reference::fold as reference;
+use quebralua_reference::rule_call as described;
+use quebralua_reference::rule_call::RuleCall;
 
 pub fn call_fixnum(call: &FixnumCall) -> FixnumAnswer {
     fixnum(call.width, call.code, call.count, call.args)
@@ -59,6 +61,21 @@ pub fn call_fold(fold: &mut Fold, call: &FoldCall) -> FoldAnswer {
         FoldCall::Join { piece, n } => (fold.join(piece, n).refusal, 0, 0),
     };
     FoldAnswer { refusal, place, value }
+}
+
+pub fn call_rule(call: &RuleCall) -> described::RuleAnswer {
+    match *call {
+        RuleCall::Read(rule) => {
+            let RuleReadAnswer { refusal, offset, width } = rule_read(rule);
+            described::RuleAnswer { refusal, place: 0, offset, value: width as i64 }
+        }
+        RuleCall::Evaluate(rule, inputs) => {
+            let sixteen: Result<&[i64; INPUTS], _> = inputs.try_into();
+            let answer = sixteen.map_or_else(|_| rule_evaluate_any(rule, inputs), |inputs| rule_evaluate(rule, inputs));
+            let RuleAnswer { refusal, place, offset, value } = answer;
+            described::RuleAnswer { refusal, place, offset, value }
+        }
+    }
 }
 
 /// The record of the C library that holds these numbers.

@@ -1,7 +1,7 @@
-//! Compares the C library with the second implementation: every edge of the rules, random calls, lists of calls, and
-//! folds. Then compares the library's answers with each other: at each width with those at the greater ones, and folds by
-//! their laws. Ends with status 1 at the first difference, and where some operation, width, refusal, place, case of a
-//! fold or law was never seen.
+//! Compares the C library with the second implementation: every edge of the calls, random calls, lists of calls, folds,
+//! and stored rules. Then compares the library's answers with each other: at each width with those at the greater ones,
+//! and folds and rules by their laws. Ends with status 1 at the first difference, and where some operation, width,
+//! refusal, place, case of a fold or a rule, or law was never seen.
 
 mod agreement;
 mod binding;
@@ -19,6 +19,10 @@ mod options;
 mod outputs;
 mod random_calls;
 mod report;
+mod rule_breaches;
+mod rule_cases;
+mod rule_checker;
+mod rules;
 mod tally;
 mod whole_words;
 
@@ -45,8 +49,10 @@ fn main() {
     let agreement = phase(&mut checker, "widths that agree", |checker| agreement::run(checker, options.calls / 20));
     phase(&mut checker, "edges of the folds", edges::folds);
     let laws = phase(&mut checker, "random folds, and their laws", |checker| folds::run(checker, options.folds));
-    println!("{agreement}\n{laws}\n\n{}", checker.tally);
-    let missing = [checker.tally.missing(), agreement.missing(), laws.missing()].concat();
+    phase(&mut checker, "edges of the rules", edges::rules);
+    let rules = phase(&mut checker, "random rules, and their laws", |checker| rules::run(checker, &options));
+    println!("{agreement}\n{laws}\n{rules}\n\n{}", checker.tally);
+    let missing = [checker.tally.missing(), agreement.missing(), laws.missing(), rules.missing()].concat();
     if !missing.is_empty() {
         println!("NOT SEEN\n{}", missing.join("\n"));
         exit(1);

@@ -3,14 +3,17 @@
 use quebralua_reference::random::clock;
 
 pub const USAGE: &str = "\
-usage: quebralua-tests [--seed N] [--calls N] [--lists N] [--folds N] [--edges-every N] [--no-guards] [--trace]
+usage: quebralua-tests [--seed N] [--calls N] [--lists N] [--folds N] [--rules N]
+                       [--all-changes] [--edges-every N] [--no-guards] [--trace]
   --seed N         the seed of every random choice (default: from the clock); it is printed
   --calls N        how many random calls, and a twentieth as many at every width (default 2000000)
   --lists N        how many random lists of fixnum rotations and reversals, and four times fewer of limbs (default 20000)
   --folds N        how many random folds at each width, and as many of each of their laws (default 500)
+  --rules N        how many accepted random rules, each changed and cut in many ways (default 1000)
+  --all-changes    gives each byte of those rules every other value, also in long rules
   --edges-every N  makes one of N edge calls, chosen at random (default 1: all of them)
-  --no-guards      gives each output buffer, record and chunk an allocation of its own, without guards, for a memory
-                   checker
+  --no-guards      gives each output buffer, record, chunk, rule and list of inputs an allocation of its own, without
+                   guards, for a memory checker
   --trace          prints each call before it is made, so that the last one shows where a run broke off";
 
 pub struct Options {
@@ -18,6 +21,8 @@ pub struct Options {
     pub calls: u64,
     pub lists: u64,
     pub folds: u64,
+    pub rules: u64,
+    pub all_changes: bool,
     pub edges_every: u64,
     pub no_guards: bool,
     pub trace: bool,
@@ -30,6 +35,8 @@ impl Options {
             calls: 2_000_000,
             lists: 20_000,
             folds: 500,
+            rules: 1_000,
+            all_changes: false,
             edges_every: 1,
             no_guards: false,
             trace: false,
@@ -44,7 +51,12 @@ impl Options {
                 "--calls" => &mut options.calls,
                 "--lists" => &mut options.lists,
                 "--folds" => &mut options.folds,
+                "--rules" => &mut options.rules,
                 "--edges-every" => &mut options.edges_every,
+                "--all-changes" => {
+                    options.all_changes = true;
+                    continue;
+                }
                 "--no-guards" => {
                     options.no_guards = true;
                     continue;

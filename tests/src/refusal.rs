@@ -19,3 +19,5 @@ pub const OPERAND: u64 = 7;
 pub const ROOM: u64 = 8;
 /// The record of a fold is unopened: opening with its own fields would be refused.
 pub const UNOPENED: u64 = 9;
+/// The bytes are no rule.
+pub const RULE: u64 = 10;

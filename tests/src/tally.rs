@@ -2,18 +2,22 @@
 
 use crate::done_widths::DoneWidths;
 use crate::fold_cases::FoldCases;
+use crate::rule_cases::RuleCases;
 use quebralua_reference::call::{FixnumCall, LimbCall};
 use quebralua_reference::fixnum_answers::fixnum_answers;
 use quebralua_reference::fold_call::{FoldAnswer, FoldCall, FoldOperation};
 use quebralua_reference::operation::{Operation, FIXNUM_NAMES};
 use quebralua_reference::reference::fold::Fold;
+use quebralua_reference::reference::rule::reader::Breach;
+use quebralua_reference::reference::rule::Rule;
 use quebralua_reference::refusal::DONE;
+use quebralua_reference::rule_call::{RuleAnswer, RuleCall, RuleOperation};
 use std::fmt;
 
 /// The answers of one operation, by refusal number, 0 for done, and by place. A call without a place has place 0.
-type Counts = [[u64; 5]; 10];
+type Counts = [[u64; 5]; 11];
 
-const NONE: Counts = [[0; 5]; 10];
+const NONE: Counts = [[0; 5]; 11];
 
 pub struct Tally {
     /// By code; row 0 is for every code that is not 1 to 41.
@@ -23,6 +27,9 @@ pub struct Tally {
     /// In the order of `FoldOperation::ALL`.
     folds: [Counts; FoldOperation::ALL.len()],
     fold_cases: FoldCases,
+    /// In the order of `RuleOperation::ALL`.
+    rules: [Counts; RuleOperation::ALL.len()],
+    rule_cases: RuleCases,
     widths: DoneWidths,
     total: u64,
 }
@@ -34,6 +41,8 @@ impl Tally {
             limbs: [NONE; Operation::ALL.len()],
             folds: [NONE; FoldOperation::ALL.len()],
             fold_cases: FoldCases::new(),
+            rules: [NONE; RuleOperation::ALL.len()],
+            rule_cases: RuleCases::new(),
             widths: DoneWidths::new(),
             total: 0,
         }
@@ -66,8 +75,18 @@ impl Tally {
         }
     }
 
-    /// Every operation and possible answer, every width of an operation, and every case of a fold, that no compared
-    /// call has shown.
+    /// Counts a call on a rule, given what the rule is read as.
+    pub fn rule(&mut self, call: &RuleCall, reading: &Result<Rule, Breach>, answer: RuleAnswer) {
+        self.rules[call.operation() as usize][answer.refusal as usize][answer.place as usize] += 1;
+        self.total += 1;
+        self.rule_cases.count(call, reading, answer);
+        if let (DONE, Ok(rule)) = (answer.refusal, reading) {
+            self.widths.rule(rule, call);
+        }
+    }
+
+    /// Every operation and possible answer, every width of an operation, and every case of a fold or a rule, that no
+    /// compared call has shown.
     pub fn missing(&self) -> Vec<String> {
         let mut missing = Vec::new();
         for (name, counts, possible) in self.rows() {
@@ -79,6 +98,7 @@ impl Tally {
         }
         missing.extend(self.widths.missing());
         missing.extend(self.fold_cases.missing());
+        missing.extend(self.rule_cases.missing());
         missing
     }
 
@@ -94,7 +114,11 @@ impl Tally {
             let counts = &self.folds[operation as usize];
             (operation.name(), counts, operation.answers())
         });
-        unknown.chain(fixnum).chain(limbs).chain(folds)
+        let rules = RuleOperation::ALL.iter().map(|&operation| {
+            let counts = &self.rules[operation as usize];
+            (operation.name(), counts, operation.answers())
+        });
+        unknown.chain(fixnum).chain(limbs).chain(folds).chain(rules)
     }
 }
 
@@ -130,6 +154,7 @@ impl fmt::Display for Tally {
             }
             writeln!(f)?;
         }
-        write!(f, "{:28}{:>10}  {}\n{}", "all", self.total, self.widths, self.fold_cases)
+        writeln!(f, "{:28}{:>10}  {}", "all", self.total, self.widths)?;
+        write!(f, "{}\n{}", self.fold_cases, self.rule_cases)
     }
 }

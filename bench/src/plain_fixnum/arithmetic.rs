@@ -34,7 +34,7 @@ pub fn multiply_carry(width: u64, x: i64, y: i64, z: i64) -> Answer {
 }
 
 /// The result, where it is a fixnum; None stands for one that is no i64.
-fn sized(width: u64, result: Option<i64>, refusal: Refusal) -> Answer {
+pub fn sized(width: u64, result: Option<i64>, refusal: Refusal) -> Answer {
     match result {
         Some(result) if is_fixnum(width, result) => Ok((result, 0)),
         _ => Err(refusal),

@@ -36,8 +36,7 @@ pub fn rotate(width: u64, x: i64, start: i64, end: i64, count: i64) -> Answer {
 pub fn reverse(width: u64, x: i64, start: i64, end: i64) -> Answer {
     check(width, [x, start, end])?;
     check_field(width, start, end)?;
-    let mirrored = (x.reverse_bits() as u64 >> 1) >> (63 - end);
-    Ok((replace(x, start, end, mirrored as i64), 0))
+    Ok((reversed(x, start, end), 0))
 }
 
 pub fn check_rotation(width: u64, x: i64, start: i64, end: i64, count: i64) -> Result<(), Refusal> {
@@ -51,7 +50,12 @@ pub fn rotated(x: i64, start: i64, end: i64, count: i64) -> i64 {
     replace(x, start, end, bits << count | bits >> (end - start - count))
 }
 
-fn check_field(width: u64, start: i64, end: i64) -> Result<(), Refusal> {
+pub fn reversed(x: i64, start: i64, end: i64) -> i64 {
+    let mirrored = (x.reverse_bits() as u64 >> 1) >> (63 - end);
+    replace(x, start, end, mirrored as i64)
+}
+
+pub fn check_field(width: u64, start: i64, end: i64) -> Result<(), Refusal> {
     require(0 <= start && start <= end && end < width as i64, Refusal::Domain)
 }
 
@@ -60,7 +64,7 @@ pub fn ones(size: i64) -> i64 {
     !(-1 << size)
 }
 
-fn field(x: i64, start: i64, end: i64) -> i64 {
+pub fn field(x: i64, start: i64, end: i64) -> i64 {
     x >> start & ones(end - start)
 }
 

@@ -42,11 +42,11 @@ fn low_bits(width: u64, x: i64) -> i64 {
 }
 
 /// The distance of a shift that goes to one side only has the same domain.
-fn is_position(width: u64, position: i64) -> bool {
+pub fn is_position(width: u64, position: i64) -> bool {
     0 <= position && position < width as i64
 }
 
-fn require(condition: bool, refusal: Refusal) -> Result<(), Refusal> {
+pub fn require(condition: bool, refusal: Refusal) -> Result<(), Refusal> {
     if condition {
         Ok(())
     } else {

@@ -26,7 +26,7 @@ pub fn shift_right(width: u64, x: i64, distance: i64) -> Answer {
 }
 
 /// The result is a fixnum where the bits that reach the place of the sign, or go beyond it, all equal the sign.
-fn shifted_left(width: u64, x: i64, distance: i64) -> Answer {
+pub fn shifted_left(width: u64, x: i64, distance: i64) -> Answer {
     require(x >> (width - 1 - distance as u64) == x >> 63, Refusal::Size)?;
     Ok((x << distance, 0))
 }

@@ -17,10 +17,13 @@ use line::reply::TROUBLE;
 use line::reply::done;
 use line::reply::trouble;
 use line::trouble::Expected;
+use line::word;
 use manual::put_usage;
 use names::Table;
 use ops::reply_ops;
 use output::put;
+use rulecalls::asked::BEFORE;
+use rulecalls::reply::reply_rule;
 
 const VERSION: [u8; 19] = *b"ql (quebralua) 0.2\n";
 
@@ -29,6 +32,7 @@ pub enum Task {
     Words,
     Batch,
     Fold,
+    RuleFile,
 }
 
 fn asks_help(line: &[u8], i: usize) -> bool {
@@ -43,6 +47,16 @@ fn is_fold(line: &[u8]) -> bool {
     is_word(line, 1, b"fold")
 }
 
+// `rule`, with the name of a file.
+fn is_rule_file(line: &[u8]) -> bool {
+    let word = word(line, BEFORE);
+    let start = word.start;
+    if start < word.end {
+        return line[start] == b'@' && is_word(line, 1, b"rule");
+    }
+    false
+}
+
 pub fn task_of(line: &[u8]) -> Task {
     let n = count(line);
     if asks_help(line, n) {
@@ -50,6 +64,9 @@ pub fn task_of(line: &[u8]) -> Task {
     }
     if is_fold(line) {
         return Task::Fold;
+    }
+    if is_rule_file(line) {
+        return Task::RuleFile;
     }
     if n == 1 && is_word(line, 1, b"batch") {
         return Task::Batch;
@@ -65,9 +82,10 @@ fn reply_command(line: &[u8], out: &mut [u8]) -> Reply {
         3 => reply_bitwise(line, out),
         4 => reply_list(line, out),
         6 => reply_join(line, out),
-        7 => reply_ops(line, out),
-        8 => reply_help(line, out),
-        9 => trouble(line, 2, Expected::End, out),
+        7 => reply_rule(line, out),
+        8 => reply_ops(line, out),
+        9 => reply_help(line, out),
+        10 => trouble(line, 2, Expected::End, out),
         _ => {
             if is_word(line, 1, b"--version") {
                 done(put(&VERSION, out, 0))
@@ -92,6 +110,8 @@ pub fn reply_words(line: &[u8], out: &mut [u8]) -> Reply {
     }
     if n == 1 {
         done(put_usage(out))
+    } else if is_word(line, 1, b"rule") {
+        reply_about(line, 1, out)
     } else {
         reply_about(line, n - 1, out)
     }

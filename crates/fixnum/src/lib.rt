@@ -2,6 +2,7 @@
 ghost use mathlib.Core.Path.{_≡_};
 ghost use Rattle.fxtable.specs.Calls.{fixnumAnswer};
 
+pub mod accepted;
 mod dispatch;
 
 use dispatch::operate;

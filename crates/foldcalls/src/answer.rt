@@ -11,6 +11,7 @@ use line::reply::Reply;
 use line::reply::done;
 use line::reply::refused;
 use line::trouble::put_file_name;
+use line::word;
 use output::put;
 use output::put_both;
 
@@ -19,8 +20,11 @@ pub fn put_ending(line: &[u8], file: usize, out: &mut [u8], at: usize) -> usize 
     if file == 0 {
         return put(b"\n", out, at);
     }
+    let word = word(line, file);
+    let start = word.start;
+    let end = word.end;
     let at = put(b"  ", out, at);
-    let at = put_file_name(line, file, out, at);
+    let at = put_file_name(&line[start..end], out, at);
     put(b"\n", out, at)
 }
 

@@ -1,10 +1,10 @@
--- A chain of comparisons: one turn of the loop, its end, and the machine's test for equality. Assumes nothing.
+-- A chain of comparisons: one turn of the loop, its end, the machine's test for equality, and the answers of codes 1 to 5. Assumes nothing.
 use Prim.Native.Nat.{ℕ, suc, _+_, _-_, _≤_, _<_, _^_}
 use native.Mathlib.Nat.{le-antisymm}
 use native.Mathlib.Omega.{arith}
 use mathlib.Core.Path.{_≡_, refl, sym, ap, _∙_}
 use mathlib.Core.Bool.{Bool, true, false, _&&_}
-use mathlib.Core.List.{List, _∷_}
+use mathlib.Core.List.{List, [], _∷_}
 use lib.Dec.{eqb, leb}
 use lib.IntN.{ℤ, pos, negsuc}
 use lib.ListN.{length, drop}
@@ -12,9 +12,16 @@ use mir.Syntax.{w64}
 use mir.Val.{SFits, ofZ}
 use borrow.Author.Tests.{eq-eqb, ne-eqb, eqb-true, eqb-false, leb-true, leb-false}
 use Rattle.fxtable.specs.Domains.{arg}
-use Rattle.fxtable.specs.Operations.{equal, chainFrom, chain}
-use Rattle.fxtable.specs.Calls.{counted}
+use Rattle.outcomes.specs.Outcome.{done}
+use Rattle.fxtable.specs.Operations.{equal, chainFrom, chain, question, truth}
+use Rattle.fxtable.specs.Calls.{answer, counted, outcome}
+use Rattle.fxtable.specs.Table.{row, rowOf}
+use Rattle.fxtable.specs.Inner.{Accepted}
+use Rattle.fxtable.proofs.CallLaws.{between, done-cong}
+use Rattle.fxtable.proofs.MeaningLaws.{arity-row, every-outcome}
 use Rattle.fxstages.proofs.LoopLaws.{rest-cons, rest-none}
+use Rattle.fxarith.specs.declared.chain.Relation.{Relation}
+use Rattle.fxarith.specs.Relations.{holds}
 
 module _ (xs : List ℤ) (n : ℕ) (four : length xs ≡ 4) (few : n ≤ 4) where
   pub chain-step : (r : ℤ → ℤ → Bool) (i : ℕ) → i + 1 < n
@@ -61,3 +68,11 @@ equal-word (negsuc a) (negsuc b) h k =
     let p : a < 2 ^ 63 = h .sfits in
     let q : b < 2 ^ 63 = k .sfits in
     eqb-iff (2 ^ 64 - suc a) (2 ^ 64 - suc b) b a (λ e. omega arith) (λ e. omega arith) ∙ eqb-leb b a
+
+-- a code whose answer is whether each argument stands in the relation to the next
+module _ (code : ℕ) (r : Relation) (e : rowOf code ≡ row 2 4 [] 0 (question (chain (holds r)))) where
+  pub compared-count : {w n : ℕ} {xs : List ℤ} → Accepted w code xs n → (1 ≤ n) × (n ≤ 4)
+  compared-count {n} a = let b = between 2 n 4 (arity-row e a) in (omega arith, b .1)
+
+  pub compared-outcome : {b : Bool} (w : ℕ) (ys : List ℤ) → b ≡ chain (holds r) ys → answer (done (truth b, pos 0)) ≡ answer (outcome w code ys)
+  compared-outcome w ys k = done-cong (ap truth k) refl ∙ every-outcome (λ zs. truth (chain (holds r) zs)) w code ys e

@@ -33,20 +33,47 @@ fn without_carry(overflow: u64, width: u64, s: Double) -> Answer
     done(low_part(width, s), 0)
 }
 
-// fx+ fx* fx-: only fx- takes one argument.
-pub fn arithmetic(width: u64, code: u64, args: [i64; 4], count: u64) -> Answer
-    requires { ⌜ Accepted width code args count ⌝ }
-    requires { ⌜ (13 ≤ code) × (code ≤ 15) ⌝ }
-    ensures { λ r. ⌜ r ≡ answer (outcome width code (counted args count)) ⌝ }
+// fx+
+pub fn add(width: u64, args: [i64; 4], count: u64) -> Answer
+    requires { ⌜ Accepted width 13 args count ⌝ }
+    ensures { λ r. ⌜ r ≡ answer (outcome width 13 (counted args count)) ⌝ }
+{
+    let x = args[0];
+    let y = args[1];
+    without_carry(6, width, sum(x, y, 0))
+}
+
+// fx*
+pub fn multiply(width: u64, args: [i64; 4], count: u64) -> Answer
+    requires { ⌜ Accepted width 14 args count ⌝ }
+    ensures { λ r. ⌜ r ≡ answer (outcome width 14 (counted args count)) ⌝ }
+{
+    let x = args[0];
+    let y = args[1];
+    exact(6, width, product(x, y))
+}
+
+// fx-, of one argument or two
+pub fn subtract(width: u64, args: [i64; 4], count: u64) -> Answer
+    requires { ⌜ Accepted width 15 args count ⌝ }
+    ensures { λ r. ⌜ r ≡ answer (outcome width 15 (counted args count)) ⌝ }
 {
     let x = args[0];
     if count == 1 {
         return checked(5, width, !is_negative(x), absolute(x), 0);
     }
     let y = args[1];
+    without_carry(5, width, difference(x, y, 0))
+}
+
+pub fn arithmetic(width: u64, code: u64, args: [i64; 4], count: u64) -> Answer
+    requires { ⌜ Accepted width code args count ⌝ }
+    requires { ⌜ (13 ≤ code) × (code ≤ 15) ⌝ }
+    ensures { λ r. ⌜ r ≡ answer (outcome width code (counted args count)) ⌝ }
+{
     match code {
-        13 => without_carry(6, width, sum(x, y, 0)),
-        14 => exact(6, width, product(x, y)),
-        _ => without_carry(5, width, difference(x, y, 0)),
+        13 => add(width, args, count),
+        14 => multiply(width, args, count),
+        _ => subtract(width, args, count),
     }
 }

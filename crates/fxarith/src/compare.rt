@@ -38,6 +38,23 @@ pub fn compare(width: u64, code: u64, args: [i64; 4], count: u64) -> Answer
     question(chain(relation(code), args, count))
 }
 
+// fx=?, for a caller that has told it from the others.
+pub fn equal(width: u64, args: [i64; 4], count: u64) -> Answer
+    requires { ⌜ Accepted width 1 args count ⌝ }
+    ensures { λ r. ⌜ r ≡ answer (outcome width 1 (counted args count)) ⌝ }
+{
+    question(chain(Relation::Equal, args, count))
+}
+
+// fx>? fx<? fx>=? fx<=?, for the same caller.
+pub fn ordered(width: u64, code: u64, args: [i64; 4], count: u64) -> Answer
+    requires { ⌜ Accepted width code args count ⌝ }
+    requires { ⌜ (2 ≤ code) × (code ≤ 5) ⌝ }
+    ensures { λ r. ⌜ r ≡ answer (outcome width code (counted args count)) ⌝ }
+{
+    question(chain(relation(code), args, count))
+}
+
 // fxzero? fxpositive? fxnegative? fxodd? fxeven?
 pub fn predicate(width: u64, code: u64, args: [i64; 4], count: u64) -> Answer
     requires { ⌜ Accepted width code args count ⌝ }

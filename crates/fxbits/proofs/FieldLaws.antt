@@ -4,48 +4,50 @@ use native.Mathlib.Nat.{lt-of-lt-of-le}
 use native.Mathlib.Omega.{arith}
 use mathlib.Core.Path.{_≡_, refl, sym, ap, subst, _∙_}
 use mathlib.Core.Bool.{true, cond}
-use lib.Dec.{eqb, lit<, lit≤}
+use lib.Dec.{eqb}
 use mathlib.Core.List.{List}
 use lib.Pow.{pow-pos, pow-mono}
 use lib.IntN.{ℤ, pos, natAbs}
+use lib.Signed.{mag}
 use mir.Syntax.{w64}
-use mir.Val.{SFits}
+use mir.Val.{SFits, toZ, ofZ}
 use Rattle.bits.specs.Testbit.{testbit, fits, fill, ofBits}
 use Rattle.bits.specs.Shift.{shiftRight}
 use Rattle.bits.specs.Division.{modℕ, mod0}
 use Rattle.bits.specs.Field.{copyBitField, copyBit}
 use Rattle.bits.proofs.ModLaws.{modℕ-lt}
 use Rattle.words.proofs.FieldWords.{extend-copyBit, mod0-copyBit}
-use Rattle.words.proofs.WordLaws.{fits-mag}
-use Rattle.fxtable.specs.declared.domains.Domain.the-variants.{Position, FieldEnd}
+use Rattle.words.proofs.WordLaws.{back-word, fits-mag}
+use Rattle.fxtable.specs.declared.domains.Domain.the-variants.{Position}
 use Rattle.fxtable.specs.Domains.{arg, domainAt}
 use Rattle.fxtable.specs.Table.{rows, rowOf}
 use Rattle.fxtable.specs.Inner.{Accepted}
 use Rattle.fxstages.proofs.DomainLaws.{domainOf}
-use Rattle.fxstages.proofs.ArgumentLaws.{FieldArguments, position-lt, field}
+use Rattle.fxstages.proofs.ArgumentLaws.{FieldArguments, position-lt}
 use Rattle.fxtable.proofs.TableLaws.{from-to}
 
 pub position-call : {w code : ℕ} {xs : List ℤ} {n : ℕ} → (33 ≤ code) × (code ≤ 34) → Accepted w code xs n → natAbs (arg xs 1) < w
 unfolding rows rowOf domainAt
 position-call {w} {code} {xs} {n} h a = position-lt a (from-to (λ c. domainOf c 1 ≡ Position) 33 2 (refl, (refl, tt)) code (h .0) (omega arith))
 
-pub field-call : {w code : ℕ} {xs : List ℤ} {n : ℕ} → (35 ≤ code) × (code ≤ 41) × (36 < code → 40 ≤ code) → Accepted w code xs n → FieldArguments xs
-unfolding rows rowOf domainAt
-field-call {w} {code} {xs} {n} h a = field a (d .0) (d .1)
-  where
-    InField : ℕ → Type 0
-    InField c = (domainOf c 1 ≡ Position) × (domainOf c 2 ≡ FieldEnd)
+-- the words of a call on a field: the number, and the field's start and end
+pub record FieldWords (xs : List ℤ) (start end : ℕ) : Type 0 where
+  pub number : toZ w64 (ofZ w64 (arg xs 0)) ≡ arg xs 0
+  pub first : start ≡ natAbs (arg xs 1)
+  pub last : end ≡ natAbs (arg xs 2)
+  pub bounds : (start ≤ end) × (end < 64)
 
-    no : {c : ℕ} → c ≤ 39 → (36 < c → 40 ≤ c) → 36 < c → InField c
-    no l k m = absurd (omega (arith, k m))
+pub field-words : {xs : List ℤ} {start end : ℕ} → FieldArguments xs → mag (arg xs 0) < 2 ^ 63 → mag (arg xs 1) < 2 ^ 63 → mag (arg xs 2) < 2 ^ 63
+    → start ≡ natAbs (toZ w64 (ofZ w64 (arg xs 1))) → end ≡ natAbs (toZ w64 (ofZ w64 (arg xs 2))) → FieldWords xs start end
+field-words {xs} {start} {end} f x a b s e =
+    let p : start ≡ natAbs (arg xs 1) = s ∙ ap natAbs (back-word (arg xs 1) a) in
+    let q : end ≡ natAbs (arg xs 2) = e ∙ ap natAbs (back-word (arg xs 2) b) in
+    record { number = back-word (arg xs 0) x; first = p; last = q; bounds = omega (arith, p, q, f .ordered, f .below) }
 
-    d : InField code
-    d =
-        from-to (λ c. (36 < c → 40 ≤ c) → InField c) 35 7 (
-          λ k. (refl, refl),
-          (λ k. (refl, refl), (λ k. no (lit≤ tt) k (lit< tt), (λ k. no (lit≤ tt) k (lit< tt), (λ k. no (lit≤ tt) k (lit< tt), (λ k. (refl, refl), (λ k. (refl, refl), tt)))))),
-        )
-        code (h .0) (omega arith) (h .2)
+-- what an operation makes of the words, and of the arguments
+pub on-field : {xs : List ℤ} {start end : ℕ} → FieldWords xs start end → (F : ℤ → ℕ → ℕ → ℤ)
+    → F (toZ w64 (ofZ w64 (arg xs 0))) start end ≡ F (arg xs 0) (natAbs (arg xs 1)) (natAbs (arg xs 2))
+on-field f F = cc (f .number, f .first, f .last)
 
 -- a field as a number
 pub field-lt : (x : ℤ) (start end : ℕ) {v : ℕ} → v ≡ modℕ (shiftRight x start) (2 ^ (end - start)) → v < 2 ^ (end - start)

@@ -1,25 +1,35 @@
--- The distance of a shift, and the shifts to either side, by sign and absolute value, and by sign and magnitude. Assumes nothing.
-use Prim.Native.Nat.{ℕ, _*_, _-_, _/_, _≤_, _<_, _^_}
+-- The words of a shift, and the shifts to either side, by sign and absolute value, and by sign and magnitude. Assumes nothing.
+use Prim.Native.Nat.{ℕ, _*_, _/_, _<_, _^_}
 use native.Mathlib.Omega.{arith}
 use mathlib.Core.Path.{_≡_, refl, ap, _∙_}
 use mathlib.Core.Bool.{Bool, true, false}
 use mathlib.Core.List.{List}
 use lib.IntN.{ℤ, pos, negsuc, natAbs, _*ℤ_}
 use lib.Signed.{mag}
+use mir.Syntax.{w64}
+use mir.Val.{toZ, ofZ}
 use Rattle.bits.specs.Testbit.{isNegative}
 use Rattle.words.specs.Sign.{withSign, ofMagnitude}
 use Rattle.bits.specs.Shift.{floorDiv, shiftLeft, shiftRight, arithmeticShift}
-use Rattle.fxtable.specs.Domains.{arg, domainAt}
-use Rattle.fxtable.specs.Table.{rows, rowOf}
-use Rattle.fxtable.specs.Inner.{Accepted}
-use Rattle.fxstages.proofs.ArgumentLaws.{distance-lt, signed-distance-lt}
-use Rattle.fxtable.proofs.TableLaws.{from-to}
+use Rattle.fxtable.specs.Domains.{arg}
 use Rattle.words.proofs.SignedLaws.{withSign-times}
+use Rattle.words.proofs.WordLaws.{back-word}
 
-pub shift-call : {w code : ℕ} {xs : List ℤ} {n : ℕ} → (37 ≤ code) × (code ≤ 39) → Accepted w code xs n → natAbs (arg xs 1) < 64
-unfolding rows rowOf domainAt
-shift-call {w} {code} {xs} {n} h a =
-    from-to (λ c. Accepted w c xs n → natAbs (arg xs 1) < 64) 37 3 (λ b. signed-distance-lt b refl, (λ b. distance-lt b refl, (λ b. distance-lt b refl, tt))) code (h .0) (omega arith) a
+-- the words of a shift: the number, and how far it goes
+pub record ShiftWords (xs : List ℤ) (k : ℕ) : Type 0 where
+  pub number : toZ w64 (ofZ w64 (arg xs 0)) ≡ arg xs 0
+  pub distance : k ≡ natAbs (arg xs 1)
+  pub bound : k < 64
+
+pub shift-words : {xs : List ℤ} {k : ℕ} → natAbs (arg xs 1) < 64 → mag (arg xs 0) < 2 ^ 63 → mag (arg xs 1) < 2 ^ 63
+    → k ≡ natAbs (toZ w64 (ofZ w64 (arg xs 1))) → ShiftWords xs k
+shift-words {xs} {k} h x d e =
+    let p : k ≡ natAbs (arg xs 1) = e ∙ ap natAbs (back-word (arg xs 1) d) in
+    record { number = back-word (arg xs 0) x; distance = p; bound = rw p h }
+
+-- a shift of the words is that of the arguments
+pub on-shift : {xs : List ℤ} {k : ℕ} → ShiftWords xs k → (f : ℤ → ℕ → ℤ) → f (toZ w64 (ofZ w64 (arg xs 0))) k ≡ f (arg xs 0) (natAbs (arg xs 1))
+on-shift s f = cc (s .number, s .distance)
 
 -- ---- by sign and absolute value, and by sign and magnitude
 

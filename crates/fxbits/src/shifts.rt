@@ -34,24 +34,47 @@ fn right(x: i64, k: u64) -> i64
     from_magnitude(is_negative(x), magnitude(x) >> k)
 }
 
-// fxarithmetic-shift, which goes to the right where the distance is negative; fxarithmetic-shift-left, fxarithmetic-shift-right.
+// fxarithmetic-shift, which goes to the right where the distance is negative.
+pub fn shift_either(width: u64, args: [i64; 4], count: u64) -> Answer
+    requires { ⌜ Accepted width 37 args count ⌝ }
+    ensures { λ r. ⌜ r ≡ answer (outcome width 37 (counted args count)) ⌝ }
+{
+    let x = args[0];
+    let distance = args[1];
+    let k = absolute(distance);
+    if is_negative(distance) {
+        done(right(x, k), 0)
+    } else {
+        left(width, x, k)
+    }
+}
+
+// fxarithmetic-shift-left
+pub fn shift_left(width: u64, args: [i64; 4], count: u64) -> Answer
+    requires { ⌜ Accepted width 38 args count ⌝ }
+    ensures { λ r. ⌜ r ≡ answer (outcome width 38 (counted args count)) ⌝ }
+{
+    let x = args[0];
+    left(width, x, absolute(args[1]))
+}
+
+// fxarithmetic-shift-right
+pub fn shift_right(width: u64, args: [i64; 4], count: u64) -> Answer
+    requires { ⌜ Accepted width 39 args count ⌝ }
+    ensures { λ r. ⌜ r ≡ answer (outcome width 39 (counted args count)) ⌝ }
+{
+    let x = args[0];
+    done(right(x, absolute(args[1])), 0)
+}
+
 pub fn shift(width: u64, code: u64, args: [i64; 4], count: u64) -> Answer
     requires { ⌜ Accepted width code args count ⌝ }
     requires { ⌜ (37 ≤ code) × (code ≤ 39) ⌝ }
     ensures { λ r. ⌜ r ≡ answer (outcome width code (counted args count)) ⌝ }
 {
-    let x = args[0];
-    let distance = args[1];
-    let k = absolute(distance);
     match code {
-        37 => {
-            if is_negative(distance) {
-                done(right(x, k), 0)
-            } else {
-                left(width, x, k)
-            }
-        }
-        38 => left(width, x, k),
-        _ => done(right(x, k), 0),
+        37 => shift_either(width, args, count),
+        38 => shift_left(width, args, count),
+        _ => shift_right(width, args, count),
     }
 }

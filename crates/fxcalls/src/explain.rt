@@ -83,11 +83,20 @@ pub fn put_range(width: u64, out: &mut [u8], at: usize) -> usize {
 }
 
 // Whether an argument or, where no argument is named, the result is no fixnum.
-fn is_about_fixnums(answer: Answer) -> bool {
-    answer.refusal == 4 || (5 <= answer.refusal && answer.place == 0)
+fn is_about_fixnums(refusal: u64, place: u64) -> bool {
+    refusal == 4 || (5 <= refusal && place == 0)
 }
 
-// The line of a refused call: the number, the reason, and the fixnums of the width where the reason names them.
+// The end of a refused line, with the fixnums of the width where the reason names them.
+pub fn put_end(width: u64, refusal: u64, place: u64, out: &mut [u8], at: usize) -> usize {
+    if is_about_fixnums(refusal, place) {
+        put_range(width, out, at)
+    } else {
+        put(b"\n", out, at)
+    }
+}
+
+// The line of a refused call.
 pub fn put_refusal(
     width: u64,
     request: Request,
@@ -97,9 +106,5 @@ pub fn put_refusal(
 ) -> usize {
     let at = put_refused(answer.refusal, out, at);
     let at = put_reason(width, request, answer, out, at);
-    if is_about_fixnums(answer) {
-        put_range(width, out, at)
-    } else {
-        put(b"\n", out, at)
-    }
+    put_end(width, answer.refusal, answer.place, out, at)
 }

@@ -3,3 +3,4 @@ pub mod FixnumLaws
 pub mod DomainLaws
 pub mod ArgumentLaws
 pub mod LoopLaws
+pub mod TurnLaws

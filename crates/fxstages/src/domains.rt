@@ -1,6 +1,7 @@
 // Which argument of a call is the first outside its domain.
 ghost use mathlib.Core.Path.{_≡_};
-ghost use mathlib.Core.Bool.{true};
+ghost use mathlib.Core.Bool.{true, cond};
+ghost use lib.Dec.{eqb};
 ghost use Prim.Native.Nat.{_≤_};
 ghost use lib.IntN.{pos};
 ghost use Rattle.bits.specs.Range as range;
@@ -10,6 +11,7 @@ ghost use Rattle.fxtable.specs.Domains as domains;
 ghost use Rattle.fxtable.specs.Table.{rowOf};
 ghost use Rattle.fxtable.specs.Calls.{isCount, counted};
 use fxtable::domains::Domain;
+use fxtable::table::Signature;
 use fxtable::table::signature_of;
 use words::range::within;
 use words::sign::absolute;
@@ -59,6 +61,35 @@ pub fn first_outside(width: u64, code: u64, args: [i64; 4], count: u64) -> u64
     let fourth = s.fourth;
     if !accepts(fourth, width, args, 3) {
         return 4;
+    }
+    0
+}
+
+// The domain of argument i, from 1 to 3.
+fn domain_of(s: Signature, i: u64) -> Domain
+    ensures { λ r. ⌜ r ≡ cond (eqb i 1) (s .second) (cond (eqb i 2) (s .third) (s .fourth)) ⌝ }
+{
+    match i {
+        1 => s.second,
+        2 => s.third,
+        _ => s.fourth,
+    }
+}
+
+// The same as `first_outside`, argument by argument in a loop: for the evaluator of rules. Each is built into its one caller, so that neither
+// caller makes the other slower.
+pub fn first_outside_in_turn(width: u64, code: u64, args: [i64; 4], count: u64) -> u64
+    requires { ⌜ domains.isWidth width ≡ true ⌝ }
+    requires { ⌜ isCount code count ≡ true ⌝ }
+    ensures { λ r. ⌜ r ≡ firstFailed (domains.domainTests (rowOf code .domains) width (counted args count)) ⌝ }
+{
+    let s = signature_of(code);
+    let mut i = 1;
+    while i < 4 {
+        if !accepts(domain_of(s, i), width, args, i) {
+            return i + 1;
+        }
+        i += 1;
     }
     0
 }

@@ -19,6 +19,9 @@ pub enum Expected {
     IntegerOfFewDigits,
     ListCall,
     Length,
+    RuleCommand,
+    Rule,
+    EvenDigits,
     LineCommand,
     End,
 }
@@ -26,7 +29,7 @@ pub enum Expected {
 fn put_expected(expected: Expected, out: &mut [u8], at: usize) -> usize {
     match expected {
         Expected::Command => put(
-            b"fx, widths, bitwise, list, fold, join, batch, ops or help",
+            b"fx, widths, bitwise, list, fold, join, rule, batch, ops or help",
             out,
             at,
         ),
@@ -59,6 +62,13 @@ fn put_expected(expected: Expected, out: &mut [u8], at: usize) -> usize {
         ),
         Expected::ListCall => put(b"rev, or rot: and a count, such as rot:3,", out, at),
         Expected::Length => put(b"a length from 0 to 2^63 - 1", out, at),
+        Expected::RuleCommand => put(b"read, run or widths", out, at),
+        Expected::Rule => put(
+            b"a rule in hexadecimal, such as 1e0100, or @ and the name of a file",
+            out,
+            at,
+        ),
+        Expected::EvenDigits => put(b"an even number of hexadecimal digits", out, at),
         Expected::LineCommand => put(b"fx or bitwise", out, at),
         Expected::End => put(b"no further word", out, at),
     }
@@ -84,21 +94,17 @@ fn put_shown(text: &[u8], most: usize, out: &mut [u8], at: usize) -> usize {
     put_if(i < text.len(), b"..", out, filled)
 }
 
-fn put_first(line: &[u8], i: usize, most: usize, out: &mut [u8], at: usize) -> usize {
+// A word, as its first 40 bytes.
+pub fn put_word(line: &[u8], i: usize, out: &mut [u8], at: usize) -> usize {
     let word = word(line, i);
     let start = word.start;
     let end = word.end;
-    put_shown(&line[start..end], most, out, at)
-}
-
-// A word, as its first 40 bytes.
-pub fn put_word(line: &[u8], i: usize, out: &mut [u8], at: usize) -> usize {
-    put_first(line, i, 40, out, at)
+    put_shown(&line[start..end], 40, out, at)
 }
 
 // The name of a file: whole, unless no file can have it.
-pub fn put_file_name(line: &[u8], i: usize, out: &mut [u8], at: usize) -> usize {
-    put_first(line, i, libc::PATH_MAX, out, at)
+pub fn put_file_name(name: &[u8], out: &mut [u8], at: usize) -> usize {
+    put_shown(name, libc::PATH_MAX, out, at)
 }
 
 // ` is 'x', and `, or ` is missing: `

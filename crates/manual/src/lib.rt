@@ -115,6 +115,9 @@ pub fn put_usage(out: &mut [u8]) -> usize {
                                           the same at every width, and which widths agree
   ql join WIDTH START END COUNT ACCUMULATOR PIECE LENGTH
                                           the identifier after a piece that was folded by itself
+  ql rule read RULE                       the width and the form of a stored rule, or where it offends
+  ql rule run RULE INPUT..                a stored rule run
+  ql rule widths RULE INPUT..             the same at every width, and which widths agree
   ql batch                                calls of fx and bitwise, a line each, from standard input
   ql ops [OP]                             the operations: codes, names, arguments
   ql help [WORD]                          this, or what a command or an operation does
@@ -140,6 +143,7 @@ number and the reason. The exit status is 0 where a call is done and 1 where it 
   ql bitwise bitwise-xor -1 #xffffffffffffffffffffffff
   ql list 24 4 12 0x1234 rot:3 rev rot:1
   ql fold 62 0 61 7 FILE
+  ql rule read 00021c0202280401000000001d000700ff01
 ",
         out,
         at,
@@ -222,6 +226,30 @@ these bytes by themselves, folded from 0 with the same settings. So pieces can b
     )
 }
 
+fn put_rule_help(out: &mut [u8]) -> usize {
+    let at = put(
+        b"ql rule read RULE
+ql rule run RULE INPUT..
+ql rule widths RULE INPUT..
+A stored rule: its bytes in hexadecimal, or @ and the name of a file that has them, @- for standard input. A rule is a width, 0 for 30, and
+one form. A form is 0 and a constant, or 1 and the index of an input, 0 to 15, or 2, a code, an argument count and that many forms. A
+constant is signed LEB128, any other number unsigned, in its shortest form. There are at most 4096 bytes, nested at most 32 forms deep, and
+no operation with two results.
+",
+        out,
+        0,
+    );
+    put(
+        b"read prints the width and the form as Scheme writes it, x3 for input 3. run takes the inputs x0, x1 and so on, as many as the rule needs,
+and prints its value. widths does so at every width from 24 to 64, whichever is stored, and a line has the widths with one answer. Bytes
+that are no rule are refused, with a number, 10, and the byte and the item that offend; a rule that is run is refused with the call, the
+constant or the input that is. The exit status of widths is 0 where all widths agree.
+",
+        out,
+        at,
+    )
+}
+
 fn put_ops_help(out: &mut [u8]) -> usize {
     put(
         b"ql ops [OP]
@@ -253,8 +281,9 @@ pub fn put_command_help(command: u64, out: &mut [u8]) -> usize {
         4 => put_list_help(out),
         5 => put_fold_help(out),
         6 => put_join_help(out),
-        7 => put_ops_help(out),
-        8 => put_usage(out),
+        7 => put_rule_help(out),
+        8 => put_ops_help(out),
+        9 => put_usage(out),
         _ => put_batch_help(out),
     }
 }

@@ -6,13 +6,14 @@ use check::same;
 use output::put;
 
 // The commands.
-fn command_lines() -> [u8; 47] {
+fn command_lines() -> [u8; 52] {
     *b"fx
 widths
 bitwise
 list
 fold
 join
+rule
 ops
 help
 batch"

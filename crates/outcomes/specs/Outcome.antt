@@ -4,6 +4,7 @@
 --   guardAt t k d o      ==  o where the test t holds, else refusal k with the detail d: one stage of a call's refusals
 --   guard t k o          ==  the same, without a detail
 --   mapDone f o          ==  o, with f of its value
+--   onDone o next        ==  what `next` makes of o's value, or o's refusal
 --   refusalOf o          ==  the refusal number, 0 where the call is done
 use Prim.Native.Nat.{ℕ}
 use mathlib.Core.Bool.{Bool, cond}
@@ -29,3 +30,7 @@ module _ {A : Type 0} where
 unfoldable pub mapDone : {A B : Type 0} → (A → B) → Outcome A → Outcome B
 mapDone f (refused k detail) = refused k detail
 mapDone f (done x) = done (f x)
+
+unfoldable pub onDone : {A B : Type 0} → Outcome A → (A → Outcome B) → Outcome B
+onDone (refused k detail) next = refused k detail
+onDone (done x) next = next x

@@ -8,6 +8,7 @@ use command::task_of;
 use foldfiles::run_fold;
 use line::reply::TROUBLE;
 use output::put;
+use rulefiles::run_rule;
 use streams::write::write_out;
 use streams::write::write_reply;
 
@@ -46,6 +47,7 @@ fn answer_line(line: &mut [u8], n: usize, out: &mut [u8]) -> u64 {
     match task_of(&line[..n]) {
         Task::Batch => run_batch(line, out),
         Task::Fold => run_fold(&line[..n], out),
+        Task::RuleFile => run_rule(&line[..n], out),
         Task::Words => {
             let reply = reply_words(&line[..n], out);
             write_out(reply, out)

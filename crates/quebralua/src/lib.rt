@@ -1,4 +1,4 @@
-// The C library: the fixnum calls, the limb calls, the conversions and the fold under plain C names, with the contract of each.
+// The C library: the fixnum calls, the limb calls, the conversions, the fold and stored rules under plain C names, with the contract of each.
 // include/quebralua.h is the header. In C a slice is a pointer and a length.
 ghost use mathlib.Core.Path.{_≡_};
 ghost use mathlib.Core.Bool.{_&&_, _||_, xor};
@@ -10,6 +10,7 @@ ghost use Rattle.outcomes.specs.Number.{number};
 ghost use Rattle.limbs.specs.Operations.{notOutcome, bitwiseOutcome, ifOutcome, copyBitOutcome, bitFieldOutcome, copyBitFieldOutcome, shiftOutcome, shiftLeftOutcome, shiftRightOutcome, rotateOutcome, reverseOutcome, bitCountOutcome, lengthOutcome, firstBitSetOutcome, bitSetOutcome};
 
 pub mod folds;
+pub mod stored_rules;
 
 use fxtable::answer::Answer;
 use limbstages::Written;

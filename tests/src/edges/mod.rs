@@ -17,6 +17,17 @@ mod limb_operands;
 mod limb_positions;
 mod limbs;
 mod pointers;
+mod rule_binding;
+mod rule_codes;
+mod rule_depths;
+mod rule_inputs;
+mod rule_lengths;
+mod rule_numbers;
+mod rule_order;
+mod rule_parts;
+mod rule_pointers;
+mod rule_strings;
+mod rule_widths;
 
 use crate::checker::Checker;
 
@@ -44,4 +55,17 @@ pub fn folds(checker: &mut Checker) {
     fold_chunks::run(checker);
     fold_fields::run(checker);
     fold_joins::run(checker);
+}
+
+pub fn rules(checker: &mut Checker) {
+    rule_binding::run();
+    rule_strings::run(checker);
+    rule_numbers::run(checker);
+    rule_codes::run(checker);
+    rule_widths::run(checker);
+    rule_depths::run(checker);
+    rule_lengths::run(checker);
+    rule_inputs::run(checker);
+    rule_order::run(checker);
+    rule_pointers::run(checker);
 }

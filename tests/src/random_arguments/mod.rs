@@ -3,3 +3,6 @@
 pub mod fixnum;
 pub mod fold;
 pub mod limbs;
+pub mod rule;
+pub mod rule_bytes;
+mod rule_refused;

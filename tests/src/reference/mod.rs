@@ -10,6 +10,7 @@
 //! - `output`: what a result does to the output buffer
 //! - `lists`: the net count of a list of rotate and reverse calls
 //! - `fold`: a running fold over bytes, on the fixnum calls
+//! - `rule`: stored rules: read, written, and evaluated by the fixnum calls
 //! - `wider`: how the answers to one fixnum call at two widths agree
 
 pub mod conversion;
@@ -21,6 +22,7 @@ pub mod limb_results;
 pub mod limbs;
 pub mod lists;
 pub mod output;
+pub mod rule;
 pub mod wider;
 pub mod width;
 

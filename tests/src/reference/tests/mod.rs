@@ -10,6 +10,8 @@ mod forms;
 mod places;
 mod programs;
 mod rotations;
+mod rule_numbers;
+mod rules;
 mod samples;
 mod whole_words;
 mod wider;

@@ -1,0 +1,4 @@
+pub mod Parts
+pub mod Breaches
+pub mod Evaluation
+pub mod Rules

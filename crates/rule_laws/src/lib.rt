@@ -1,0 +1,1 @@
+// No functions: theorems about reading and evaluating stored rules.

@@ -1,0 +1,4 @@
+pub mod CutLaws
+pub mod ConstantLaws
+pub mod HeadLaws
+pub mod FormLaws

@@ -1,0 +1,4 @@
+pub mod AnswerLaws
+pub mod ReadAgain
+pub mod ConstantAgain
+pub mod ArgumentLaws
