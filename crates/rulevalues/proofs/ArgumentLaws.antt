@@ -28,10 +28,10 @@ use Rattle.rules.specs.Tree.{Form, Forms, constant, input, call, none, more}
 use Rattle.rules.specs.Leb128.{Reading, got, offends}
 use Rattle.rules.specs.Parse.{andThen, readConstant, readForms, readForm}
 use Rattle.rules.specs.Evaluate.{fixnum, resultOf, evaluate, evaluateAll}
-use Rattle.rulereader.proofs.CutLaws.{before}
+use Rattle.rules.proofs.EncodeParse.{parts}
 use Rattle.rulevalues.specs.declared.Evaluated.{Evaluated}
 use Rattle.rulevalues.specs.Evaluated.{told, Has, Evaluates, EvaluatesConstant}
-use Rattle.rulevalues.proofs.ReadAgain.{never, parts, FormAt, form-at, ConstantAt, constant-at, InputAt, input-at, CallAt, call-at}
+use Rattle.rulevalues.proofs.ReadAgain.{FormAt, form-at, ConstantAt, constant-at, InputAt, input-at, CallAt, call-at}
 
 -- a constant or an input that is done is itself, and a fixnum
 leaf-fits : (w : ℕ) (y z : ℤ) → fixnum w y ≡ done z → fits w z ≡ true

@@ -17,12 +17,12 @@ use Rattle.fxtable.proofs.CallLaws.{width-bounds}
 use Rattle.rules.specs.Leb128.{Reading, got, offends, decode}
 use Rattle.rules.specs.Parse.{andThen, item, readConstant}
 use Rattle.rules.specs.Evaluate.{fixnum}
+use Rattle.rules.proofs.Leb128Laws.{offends-got}
 use Rattle.rulereader.specs.declared.constants.Constant.{Constant}
 use Rattle.rulereader.specs.Placed.{At, Offends, ConstantRead, constantFrom}
 use Rattle.rulereader.proofs.ConstantLaws.{last-positive}
 use Rattle.rulevalues.specs.declared.Evaluated.{Evaluated}
 use Rattle.rulevalues.specs.Evaluated.{told, Has, EvaluatesConstant}
-use Rattle.rulevalues.proofs.ReadAgain.{never}
 
 pub constant-inside : (s : List ℕ) (i : ℕ) → Has (readConstant (drop i s)) → i < length s
 unfolding item decode andThen
@@ -33,7 +33,7 @@ constant-inside s i h = go (ltb i (length s)) refl
     go false q =
         let empty : drop i s ≡ [] = drop-of-length-le s {i = i} (ltb-false i (length s) q) in
         let e : readConstant (drop i s) ≡ offends 0 = rw empty refl in
-        never (sym e ∙ h .2)
+        offends-got (sym e ∙ h .2)
 
 -- what is read, and its outcome
 tells : (w : ℕ) (s : List ℕ) (r : Reading ℤ) (z : ℤ) (p : ℕ) (o : Outcome ℤ) → p ≤ length s → r ≡ got z (drop p s) → fixnum w z ≡ o → EvaluatesConstant w s r (told p o)
@@ -63,4 +63,4 @@ module _ (w : ℕ) (s : List ℕ) (i : ℕ) where
         tells w s (readConstant (drop i s)) z p (fixnum w z) (a .inside) (a .value) refl
 
     pub no-constant : (o : ℕ) → m ≡ Constant.Offends o → EvaluatesConstant w s (readConstant (drop i s)) (Evaluated.Refused 10 0)
-    no-constant o e = λ z rest q. let a : Offends s (readConstant (drop i s)) o = rw e at h in never (sym (a .left) ∙ q)
+    no-constant o e = λ z rest q. let a : Offends s (readConstant (drop i s)) o = rw e at h in offends-got (sym (a .left) ∙ q)

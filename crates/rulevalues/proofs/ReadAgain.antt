@@ -13,21 +13,12 @@ use Rattle.rules.specs.Tree.{Form, Forms, constant, input, call}
 use Rattle.rules.specs.Leb128.{Reading, got, offends, decode}
 use Rattle.rules.specs.Limits.{isTag, isInput, isStoredCode}
 use Rattle.rules.specs.Parse.{Head, leaf, opens, andThen, item, readNumber, readConstant, afterTag, readHead, afterHead, readForms, readForm}
+use Rattle.rules.proofs.Leb128Laws.{offends-got}
+use Rattle.rules.proofs.EncodeParse.{parts}
 use Rattle.rulereader.specs.Placed.{At, Offends, Small, OneGroup, cutOff}
 use Rattle.rulereader.proofs.CutLaws.{ends-early, offends-here, passes, fails}
 use Rattle.rulereader.proofs.HeadLaws.{small-tag, small-input, small-code, small-count}
 use Rattle.rulevalues.specs.Evaluated.{Has}
-
--- what offends has got nothing
-pub never : {X A : Type 0} {l : ℕ} {v : A} {rest : List ℕ} → offends l ≡ got v rest → X
-never e = let z : _≡_ {A = ℕ} 0 1 = cc in absurd (omega arith)
-
--- two things read one after the other: for a proof of P, both may be taken as known
-pub parts : {A B P : Type 0} (r : Reading A) (next : A → List ℕ → Reading B) (v : B) (rest : List ℕ) → andThen r next ≡ got v rest
-    → ((u : A) (m : List ℕ) → r ≡ got u m → next u m ≡ got v rest → P) → P
-unfolding andThen
-parts (got u m) next v rest e then = then u m refl e
-parts (offends l) next v rest e then = never e
 
 -- nothing is read past the end
 past-end : (test : ℕ → Bool) (s : List ℕ) (i : ℕ) → length s ≤ i → readNumber test (drop i s) ≡ offends 0
@@ -56,11 +47,11 @@ module _ (test : ℕ → Bool) (small : Small test) (s : List ℕ) (i : ℕ) (v 
           record { inside = h; is = v′; passed = rw (← v′) q; after = cc }
       one h l false q =
           let a : Offends s (readNumber test (drop i s)) i = fails s i b (record { inside = h; group = refl; last = l }) test q in
-          never (sym (a .left) ∙ e)
+          offends-got (sym (a .left) ∙ e)
 
       several : i < length s → 128 ≤ b → (t : Bool) → t ≡ cutOff 8 (drop (i + 1) s) → Byte test s i v rest
-      several h l true q = let a : Offends s (readNumber test (drop i s)) (length s) = ends-early s i h l test small q in never (sym (a .left) ∙ e)
-      several h l false q = let a : Offends s (readNumber test (drop i s)) i = offends-here s i h l test small q in never (sym (a .left) ∙ e)
+      several h l true q = let a : Offends s (readNumber test (drop i s)) (length s) = ends-early s i h l test small q in offends-got (sym (a .left) ∙ e)
+      several h l false q = let a : Offends s (readNumber test (drop i s)) i = offends-here s i h l test small q in offends-got (sym (a .left) ∙ e)
 
       byte : i < length s → (t : Bool) → ltb b 128 ≡ t → Byte test s i v rest
       byte h true q = one h (ltb-true b 128 q) (test b) refl
@@ -68,7 +59,7 @@ module _ (test : ℕ → Bool) (small : Small test) (s : List ℕ) (i : ℕ) (v 
 
       go : (t : Bool) → ltb i (length s) ≡ t → Byte test s i v rest
       go true q = byte (ltb-true i (length s) q) (ltb b 128) refl
-      go false q = never (sym (past-end test s i (ltb-false i (length s) q)) ∙ e)
+      go false q = offends-got (sym (past-end test s i (ltb-false i (length s) q)) ∙ e)
 
 -- ---- a form
 
@@ -166,7 +157,7 @@ module _ (d : ℕ) (s : List ℕ) (i : ℕ) (f : Form) (rest : List ℕ) where
 
 pub form-at : (d : ℕ) (s : List ℕ) (i : ℕ) (f : Form) (rest : List ℕ) → readForm d (drop i s) ≡ got f rest → FormAt d s i f rest
 unfolding readForm readHead
-form-at zero s i f rest e = never e
+form-at zero s i f rest e = offends-got e
 form-at (suc d) s i f rest e =
     parts (readHead (drop i s)) (λ head m. afterHead (readForm d) head m) f rest e (λ head m p q. tag head m p q)
   where
