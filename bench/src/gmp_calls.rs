@@ -80,12 +80,12 @@ pub fn shift(i: &Input, scratch: &mut Scratch) {
 }
 
 /// GMP counts the ones of integers that are not negative.
-pub fn bit_count(i: &Input, scratch: &mut Scratch) -> i64 {
-    if i.x.gmp.is_negative() {
-        scratch.part.com(&i.x.gmp);
+pub fn bit_count(x: &Mpz, scratch: &mut Scratch) -> i64 {
+    if x.is_negative() {
+        scratch.part.com(x);
         !scratch.part.popcount()
     } else {
-        i.x.gmp.popcount()
+        x.popcount()
     }
 }
 

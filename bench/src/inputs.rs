@@ -41,12 +41,21 @@ pub struct Input {
 
 /// Inputs with operands of a length. All combinations of signs come equally often.
 pub fn inputs(random: &mut Random, length: usize) -> Vec<Input> {
-    let number = match length {
-        1 => 256,
-        32 => 64,
+    (0..number(length)).map(|i| input(random, length, i)).collect()
+}
+
+/// Operands of a length and sign.
+pub fn operands(random: &mut Random, length: usize, negative: bool) -> Vec<Operand> {
+    (0..number(length)).map(|_| Operand::random(random, length, negative)).collect()
+}
+
+/// How many inputs of a length there are.
+fn number(length: usize) -> usize {
+    match length {
+        0..32 => 256,
+        32..1024 => 64,
         _ => 8,
-    };
-    (0..number).map(|i| input(random, length, i)).collect()
+    }
 }
 
 fn input(random: &mut Random, length: usize, i: usize) -> Input {

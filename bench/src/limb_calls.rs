@@ -148,7 +148,7 @@ fn numbers(inputs: &Inputs) -> Vec<Case> {
             "bitwise-bit-count",
             inputs,
             |i| ours::bitwise_bit_count(&i.x.limbs),
-            gmp_calls::bit_count,
+            |i, scratch| gmp_calls::bit_count(&i.x.gmp, scratch),
             |i| plain::bit_count(&i.x.limbs),
         ),
         answering(

@@ -40,12 +40,12 @@ pub fn writing(
 }
 
 /// The case of a call that answers a number.
-pub fn answering(
+pub fn answering<I: 'static>(
     name: &str,
-    inputs: &Inputs,
-    ours: impl Fn(&Input) -> Value + 'static,
-    gmp: impl Fn(&Input, &mut Scratch) -> i64 + 'static,
-    plain: impl Fn(&Input) -> i64 + 'static,
+    inputs: &Rc<Vec<I>>,
+    ours: impl Fn(&I) -> Value + 'static,
+    gmp: impl Fn(&I, &mut Scratch) -> i64 + 'static,
+    plain: impl Fn(&I) -> i64 + 'static,
 ) -> Case {
     let mut scratch = Scratch::new();
     for input in inputs.iter() {

@@ -4,6 +4,7 @@
 #[allow(dead_code)] // All calls of the header are there; the conversions are not measured.
 #[path = "../../tests/src/binding.rs"]
 mod binding;
+mod count_case;
 mod fixnum_calls;
 mod fixnum_case;
 mod fold_case;
@@ -43,16 +44,20 @@ fn main() {
     let mut fixnums = fixnum_case::cases(&mut random);
     let mut folds = fold_case::cases(&mut random);
     let mut rules = rule_case::cases(&mut random);
+    let mut counts = count_case::cases(&mut random);
     for _ in 0..SWEEPS {
         let lengths = [&mut limbs.one, &mut limbs.medium, &mut limbs.long, &mut limbs.short_results];
+        let counts = counts.iter_mut().map(|row| &mut row.case);
         let fixnums = fixnums.iter_mut().map(|row| &mut row.case);
         let folds = folds.iter_mut().flat_map(FoldCases::all);
         let rules = rules.iter_mut().flat_map(RuleCases::both);
-        for case in lengths.into_iter().flatten().chain(fixnums).chain(folds).chain(rules) {
+        for case in lengths.into_iter().flatten().chain(counts).chain(fixnums).chain(folds).chain(rules) {
             case.measure();
         }
     }
     tables::limbs(&limbs);
+    println!();
+    tables::counts(&counts);
     println!();
     tables::fixnums(&fixnums);
     println!();
@@ -60,7 +65,7 @@ fn main() {
     println!();
     tables::rules(&rules);
     println!();
-    tables::aims(&limbs, &fixnums, &folds, &rules);
+    tables::aims(&limbs, &counts, &fixnums, &folds, &rules);
 }
 
 fn limb_cases(random: &mut Random) -> LimbCases {

@@ -1,5 +1,6 @@
 //! The tables, in Markdown.
 
+use crate::count_case::{CountCase, LENGTHS};
 use crate::fixnum_case::FixnumCase;
 use crate::fold_case::{FoldCases, LONGEST};
 use crate::rule_case::RuleCases;
@@ -31,6 +32,10 @@ const LIMB_AIM_CALLS: [&str; 11] = [
     "bitwise-arithmetic-shift-right",
 ];
 
+/// How many times GMP's time, at the longest length, and plain Rust's a bit count may take.
+const COUNT_GMP_AIM: f64 = 1.5;
+const COUNT_AIM: f64 = 1.2;
+
 /// How many times plain Rust's time a fixnum call may take.
 const FIXNUM_AIM: f64 = 3.0;
 
@@ -55,6 +60,21 @@ pub fn limbs(cases: &LimbCases) {
     }
     for case in &cases.short_results {
         println!("| {} | | | {} | | | {} | |", case.name, optional(case.over_gmp()), ratio(case.over_plain()));
+    }
+}
+
+pub fn counts(rows: &[CountCase]) {
+    println!("### Bit counts\n");
+    println!("| Limbs | Operands | GMP | Rust |");
+    println!("|--:|---|--:|--:|");
+    for CountCase { length, negative, case } in rows {
+        let gmp = case.over_gmp().map_or("–".to_string(), fine);
+        println!(
+            "| {} | {} | {gmp} | {} |",
+            counted(*length),
+            if *negative { "negative" } else { "not negative" },
+            fine(case.over_plain())
+        );
     }
 }
 
@@ -97,7 +117,7 @@ pub fn rules(rows: &[RuleCases]) {
     }
 }
 
-pub fn aims(limbs: &LimbCases, fixnums: &[FixnumCase], folds: &[FoldCases], rules: &[RuleCases]) {
+pub fn aims(limbs: &LimbCases, counts: &[CountCase], fixnums: &[FixnumCase], folds: &[FoldCases], rules: &[RuleCases]) {
     let fixnums = fixnums.iter().map(|row| &row.case);
     let aimed = || limbs.long.iter().filter(|case| LIMB_AIM_CALLS.contains(&case.name.as_str()));
     let gmp = |case: &Case| case.over_gmp().unwrap_or(f64::INFINITY);
@@ -109,6 +129,7 @@ pub fn aims(limbs: &LimbCases, fixnums: &[FixnumCase], folds: &[FoldCases], rule
     println!("| {what}: within 2 times GMP | {} |", missed(aimed(), gmp, LIMB_AIM));
     println!("| The same: within 2 times plain Rust | {} |", missed(aimed(), Case::over_plain, LIMB_AIM));
     println!("| The same: within 2 times one of the two | {} |", missed(aimed(), least, LIMB_AIM));
+    count_aims(counts);
     println!("| Fixnum calls: within 3 times plain Rust | {} |", missed(fixnums, Case::over_plain, FIXNUM_AIM));
     // The check of the record hardly counts in the last two sizes, so there the aim is about the loop.
     let long = folds.iter().flat_map(|row| &row.chunks[3..]);
@@ -119,6 +140,16 @@ pub fn aims(limbs: &LimbCases, fixnums: &[FixnumCase], folds: &[FoldCases], rule
     );
     println!("| Chunks of 16 and 256 bytes: the same | {} |", missed(short, Case::over_plain, FOLD_AIM));
     rule_aims(rules);
+}
+
+fn count_aims(rows: &[CountCase]) {
+    let gmp = |case: &Case| case.over_gmp().unwrap_or(f64::INFINITY);
+    let of = |long: bool| {
+        rows.iter().filter(move |row| (row.length == LENGTHS[LENGTHS.len() - 1]) == long).map(|row| &row.case)
+    };
+    println!("| Bit-count at 1,024 limbs: within 1.5 times GMP | {} |", missed(of(true), gmp, COUNT_GMP_AIM));
+    println!("| The same: within 1.2 times plain Rust | {} |", missed(of(true), Case::over_plain, COUNT_AIM));
+    println!("| Bit-count at 1, 4 and 32 limbs: the same | {} |", missed(of(false), Case::over_plain, COUNT_AIM));
 }
 
 fn rule_aims(rows: &[RuleCases]) {

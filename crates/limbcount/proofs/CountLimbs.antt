@@ -11,7 +11,7 @@ use lib.IntN.{ℤ, pos, negsuc}
 use lib.ListN.{length, getD}
 use lib.Signed.{mag}
 use borrow.Author.Tests.{eqb-true, eqb-false, eq-eqb, ne-eqb}
-use Rattle.bits.specs.Testbit.{isNegative, testbit, bitLength}
+use Rattle.bits.specs.Testbit.{isNegative, testbit, halvings, bitLength}
 use Rattle.words.specs.Sign.{ofMagnitude}
 use Rattle.bits.specs.Count.{onesBelow, ones, bitCount, firstBitSet}
 use Rattle.bits.proofs.TestbitLaws.{by-lt, testbit-ext, testbit-zero, testbit-above, testbit-digit}
@@ -36,6 +36,10 @@ ones-limb m at =
       ones-onesBelow (bitsFrom (pos m) at) 32 (bitLength-le (pos (bitsFrom (pos m) at)) 32 (bitsFrom-lt (pos m) at)),
       onesBelow-ext 32 (λ t. testbit (pos (bitsFrom (pos m) at)) t) (λ t. testbit (pos m) (at + t)) (testbit-bitsFrom (pos m) at),
     )
+
+ones-zero : ones 0 ≡ 0
+unfolding ones onesBelow bitLength halvings
+ones-zero = refl
 
 -- a count that goes beyond the length is complete
 pub ones-bitCount : (z : ℤ) (k : ℕ) → bitLength z ≤ k → ofMagnitude (isNegative z) (onesBelow k (testbit (pos (mag z)))) ≡ bitCount z
@@ -131,7 +135,7 @@ module _ (xs : List ℕ) (s : ℕ) (e : s ≡ bitsFrom (value xs) (32 * length x
     limb = limb-value xs j b l
 
     -- the ones of one limb more
-    pub onesOf-more : {n r : ℕ} → n ≡ onesOf xs j → r ≡ ones (bitXor (getD xs j 0) s) → n + r ≡ onesOf xs (j + 1)
+    onesOf-more : {n r : ℕ} → n ≡ onesOf xs j → r ≡ ones (bitXor (getD xs j 0) s) → n + r ≡ onesOf xs (j + 1)
     onesOf-more p q =
         let next : 32 * j + 32 ≡ 32 * (j + 1) = omega arith in
         ap₂ _+_ p (q ∙ ap ones (flipped xs s e h (getD xs j 0) (32 * j) limb))
@@ -148,3 +152,14 @@ module _ (xs : List ℕ) (s : ℕ) (e : s ≡ bitsFrom (value xs) (32 * length x
     length-with g q p =
         ap (λ (r : ℕ). 32 * j + r) (p ∙ ap (λ (n : ℕ). bitLength (pos n)) (flipped xs s e h (getD xs j 0) (32 * j) limb))
         ∙ length-limb (value xs) (32 * j) (32 * length xs) g (long xs s e h) (λ w. q (limb ∙ w ∙ sym e))
+
+  module _ (j : ℕ) (b : (i : ℕ) → getD xs i 0 < 2 ^ 32) {n r : ℕ} (p : n ≡ onesOf xs j) where
+    -- the ones of two limbs more
+    pub onesOf-two : j + 1 < length xs → r ≡ ones (bitXor (getD xs j 0) s) + ones (bitXor (getD xs (j + 1) 0) s) → n + r ≡ onesOf xs (j + 2)
+    onesOf-two l q =
+        let next : j + 1 + 1 ≡ j + 2 = omega arith in
+        omega (arith, q, onesOf-more j b (omega arith) p refl, onesOf-more (j + 1) b l refl refl, ap (onesOf xs) next)
+
+    -- the ones of the last limb, where it is alone
+    pub onesOf-last : j + 1 ≡ length xs → r ≡ ones (bitXor (getD xs j 0) s) + ones 0 → n + r ≡ onesOf xs (length xs)
+    onesOf-last l q = omega (arith, q, ones-zero, onesOf-more j b (omega arith) p refl, ap (onesOf xs) l)

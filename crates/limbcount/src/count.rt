@@ -1,7 +1,7 @@
 // What is counted of an operand's bits. A negative integer is counted by its complement: each limb exclusive or with what
 // continues the operand.
 ghost use mathlib.Core.Path.{_≡_};
-ghost use Prim.Native.Nat.{_≤_, _<_};
+ghost use Prim.Native.Nat.{_+_, _≤_, _<_};
 ghost use lib.IntN.{pos};
 ghost use lib.ListN.{length};
 ghost use Rattle.bits.specs.Testbit.{bitLength};
@@ -10,17 +10,12 @@ ghost use Rattle.limbwords.specs.Value.{value};
 use limbwords::limb::padding;
 use words::sign::from_magnitude;
 
-// How many ones a limb has.
-fn ones_of(w: u32) -> u64
-    ensures { λ r. ⌜ r ≡ ones w ⌝ }
+// How many ones two limbs have, counted as one word.
+fn ones_of(low: u32, high: u32) -> u64
+    ensures { λ r. ⌜ r ≡ ones low + ones high ⌝ }
 {
-    let mut rest = w;
-    let mut n = 0;
-    while rest != 0 {
-        n += (rest % 2) as u64;
-        rest /= 2;
-    }
-    n
+    let both = (high as u64) * 0x1_0000_0000 + (low as u64);
+    u64::count_ones(both) as u64
 }
 
 // How many bits a limb has, without leading zeros.
@@ -37,9 +32,12 @@ pub fn bit_count(x: &[u32]) -> i64
     let sign = padding(x);
     let mut n = 0u64;
     let mut j = 0;
-    while j < x.len() {
-        n += ones_of(x[j] ^ sign);
-        j += 1;
+    while j + 1 < x.len() {
+        n += ones_of(x[j] ^ sign, x[j + 1] ^ sign);
+        j += 2;
+    }
+    if j < x.len() {
+        n += ones_of(x[j] ^ sign, 0);
     }
     from_magnitude(sign != 0, n)
 }

@@ -16,6 +16,9 @@ pub fn run(checker: &mut Checker) {
         one_bit(checker, x);
         shifts(checker, x);
     }
+    for length in (1..=40).chain(1017..=1024) {
+        counts(checker, length);
+    }
     pairs(checker);
     triples(checker);
 }
@@ -23,6 +26,19 @@ pub fn run(checker: &mut Checker) {
 fn one_operand(checker: &mut Checker, x: &[u32]) {
     for operation in [Not, BitCount, Length, FirstBitSet] {
         checker.edge_all_shapes(&LimbCall::new(operation, &[x], &[]));
+    }
+}
+
+/// Zeros or ones, and one limb that differs, at each index next to an end of the operand: it is counted once.
+fn counts(checker: &mut Checker, length: usize) {
+    for fill in [0, u32::MAX] {
+        for i in (0..length).filter(|&i| i < 20 || length - i <= 20) {
+            let mut x = vec![fill; length];
+            x[i] ^= 0x4000_0801;
+            checker.edge(&LimbCall::new(BitCount, &[&x], &[]));
+            x[length - 1] ^= 0x8000_0000;
+            checker.edge(&LimbCall::new(BitCount, &[&x], &[]));
+        }
     }
 }
 
