@@ -25,6 +25,7 @@ fn length_of(w: u32) -> u64
     32 - (u32::leading_zeros(w) as u64)
 }
 
+// Two limbs a turn, and at the end the last one where it is alone.
 pub fn bit_count(x: &[u32]) -> i64
     requires { ⌜ (0 < length (now x)) × (length (now x) ≤ 1024) ⌝ }
     ensures { λ r. ⌜ r ≡ bitCount (value (now (x .entry))) ⌝ }
