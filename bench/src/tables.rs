@@ -68,13 +68,9 @@ pub fn counts(rows: &[CountCase]) {
     println!("| Limbs | Operands | GMP | Rust |");
     println!("|--:|---|--:|--:|");
     for CountCase { length, negative, case } in rows {
-        let gmp = case.over_gmp().map_or("–".to_string(), fine);
-        println!(
-            "| {} | {} | {gmp} | {} |",
-            counted(*length),
-            if *negative { "negative" } else { "not negative" },
-            fine(case.over_plain())
-        );
+        let sign = if *negative { "negative" } else { "not negative" };
+        let ratios = [over_gmp(case), case.over_plain()].map(fine).join(" | ");
+        println!("| {} | {sign} | {ratios} |", counted(*length));
     }
 }
 
@@ -120,13 +116,12 @@ pub fn rules(rows: &[RuleCases]) {
 pub fn aims(limbs: &LimbCases, counts: &[CountCase], fixnums: &[FixnumCase], folds: &[FoldCases], rules: &[RuleCases]) {
     let fixnums = fixnums.iter().map(|row| &row.case);
     let aimed = || limbs.long.iter().filter(|case| LIMB_AIM_CALLS.contains(&case.name.as_str()));
-    let gmp = |case: &Case| case.over_gmp().unwrap_or(f64::INFINITY);
-    let least = |case: &Case| gmp(case).min(case.over_plain());
+    let least = |case: &Case| over_gmp(case).min(case.over_plain());
     let what = "Logical operations, shifts, bit-field, copy-bit-field, rotate at 1,024 limbs";
     println!("### Aims\n");
     println!("| Aim | Missed by, with the ratio |");
     println!("|---|---|");
-    println!("| {what}: within 2 times GMP | {} |", missed(aimed(), gmp, LIMB_AIM));
+    println!("| {what}: within 2 times GMP | {} |", missed(aimed(), over_gmp, LIMB_AIM));
     println!("| The same: within 2 times plain Rust | {} |", missed(aimed(), Case::over_plain, LIMB_AIM));
     println!("| The same: within 2 times one of the two | {} |", missed(aimed(), least, LIMB_AIM));
     count_aims(counts);
@@ -143,11 +138,10 @@ pub fn aims(limbs: &LimbCases, counts: &[CountCase], fixnums: &[FixnumCase], fol
 }
 
 fn count_aims(rows: &[CountCase]) {
-    let gmp = |case: &Case| case.over_gmp().unwrap_or(f64::INFINITY);
     let of = |long: bool| {
         rows.iter().filter(move |row| (row.length == LENGTHS[LENGTHS.len() - 1]) == long).map(|row| &row.case)
     };
-    println!("| Bit-count at 1,024 limbs: within 1.5 times GMP | {} |", missed(of(true), gmp, COUNT_GMP_AIM));
+    println!("| Bit-count at 1,024 limbs: within 1.5 times GMP | {} |", missed(of(true), over_gmp, COUNT_GMP_AIM));
     println!("| The same: within 1.2 times plain Rust | {} |", missed(of(true), Case::over_plain, COUNT_AIM));
     println!("| Bit-count at 1, 4 and 32 limbs: the same | {} |", missed(of(false), Case::over_plain, COUNT_AIM));
 }
@@ -177,6 +171,11 @@ fn uneven(rows: &[RuleCases], time: impl Fn(&RuleCases) -> f64) -> String {
             .filter(|&(_, ratio)| ratio > LINEAR_AIM)
             .map(|(shape, ratio)| format!("{} {}", shape.name(), fine(ratio))),
     )
+}
+
+/// Without end where GMP has no such call.
+fn over_gmp(case: &Case) -> f64 {
+    case.over_gmp().unwrap_or(f64::INFINITY)
 }
 
 /// The cases above the aim, each with its ratio.
