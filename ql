@@ -29,7 +29,7 @@ is_built() {
 build() {
     command -v rt >/dev/null || fail "'rt' of the Rattle kit is not on the PATH, and only it can build ql"
     mkdir -p "$here/target/bin" 2>/dev/null && [ -w "$here/target/bin" ] || fail "it is not built, and $here/target cannot be written"
-    echo 'ql: proving and building the command; from nothing this takes some five minutes, and a line is printed as each part is proved' >&2
+    echo 'ql: proving and building the command; from nothing this takes some 13 minutes, and a line is printed as each part is proved' >&2
     log=$here/target/ql.log
     { (cd "$here" && rt staticlib ql) 2>&1 || echo 'rt: failed'; } | tee "$log" | grep --line-buffered '^rt: ' >&2
     beside=$(sed -n 's/^rt: .*; link \(.*\) beside it$/\1/p' "$log")

@@ -13,7 +13,7 @@
      5  a divisor, position, field, distance, count or new bit is outside its domain;
         or the exact result of fx- is not a fixnum
      6  the exact result is not a fixnum, or a shift's result would have more than 1,024 limbs
-     7  an operand has no limb, or more than 1,024
+     7  an operand has no limb, more than 1,024, or, but for trim, more than its integer needs
      8  the result is longer than the capacity of the output buffer
      9  the fold is not open
     10  the bytes are not a stored rule
@@ -83,9 +83,16 @@ ql_fixnum_answer ql_fixnum(uint64_t width, uint64_t code, uint64_t count, int64_
 /* Integers in limbs.
 
    An integer is 1 to 1,024 limbs, least significant first, in two's complement: the top bit of the last limb continues
-   for ever. Operands may have more limbs than they need; a result has as few as it can (0 is one limb 0, -1 is one limb
-   0xFFFFFFFF). It is written to out[first] and the limbs after it, and `length` is the number of its limbs. Every other
-   limb of the output buffer stays as it was. The capacity is nout - first, or 0 where first is greater than nout. */
+   for ever. It has one spelling, the shortest: 0 is one limb 0, -1 is one limb 0xFFFFFFFF, and no last limb only continues
+   the top bit of the limb before it. So two integers are equal exactly where their limbs are, and limbs may serve as a
+   key. Every operand has that spelling, conversion's too, else it is refused 7; ql_bitwise_trim makes it of any limbs.
+   Every result has it. A result is written to out[first] and the limbs after it, and `length` is the number of its limbs.
+   Every other limb of the output buffer stays as it was. The capacity is nout - first, or 0 where first is greater than
+   nout. */
+
+/* The shortest limbs with the value of x, which has 1 to 1,024 limbs and may be padded. Refusals 7, for its length alone,
+   and 8. */
+ql_written ql_bitwise_trim(const uint32_t *x, size_t nx, uint32_t *out, size_t nout, uint64_t first);
 
 /* Each bit of x inverted. */
 ql_written ql_bitwise_not(const uint32_t *x, size_t nx, uint32_t *out, size_t nout, uint64_t first);

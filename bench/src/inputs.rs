@@ -27,6 +27,8 @@ pub struct Input {
     pub half: Operand,
     /// One limb, not negative.
     pub short: Operand,
+    /// The same with padding, as long as x.
+    pub padded: Vec<u32>,
     pub position: i64,
     pub bit: i64,
     pub start: i64,
@@ -64,12 +66,16 @@ fn input(random: &mut Random, length: usize, i: usize) -> Input {
     let b = random.between(0, bits - 1);
     let size = (a - b).abs();
     let distance = random.between(0, bits / 2 - 1);
+    let short = Operand::random(random, 1, false);
+    let mut padded = short.limbs.clone();
+    padded.resize(length, 0);
     Input {
         x: Operand::random(random, length, i & 1 != 0),
         y: Operand::random(random, length, i & 2 != 0),
         z: Operand::random(random, length, i & 4 != 0),
         half: Operand::random(random, length.div_ceil(2), i & 1 != 0),
-        short: Operand::random(random, 1, false),
+        short,
+        padded,
         position: random.between(0, bits - 2),
         bit: random.between(0, 1),
         start: a.min(b),

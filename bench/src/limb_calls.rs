@@ -33,6 +33,13 @@ pub fn short_results(inputs: &Inputs) -> Vec<Case> {
             Some(|i: &Input, scratch: &mut Scratch| scratch.result.and(&i.x.gmp, &i.short.gmp)),
             |i, out| plain::and(&i.x.limbs, &i.short.limbs, out),
         ),
+        writing(
+            "trim of one limb and padding",
+            inputs,
+            |i, out| ours::bitwise_trim(&i.padded, out, 0),
+            None::<fn(&Input, &mut Scratch)>,
+            |i, out| plain::trim(&i.padded, out),
+        ),
     ]
 }
 
@@ -72,6 +79,13 @@ fn logical(inputs: &Inputs) -> Vec<Case> {
             |i, out| ours::bitwise_if(&i.x.limbs, &i.y.limbs, &i.z.limbs, out, 0),
             Some(gmp_calls::if_),
             |i, out| plain::if_(&i.x.limbs, &i.y.limbs, &i.z.limbs, out),
+        ),
+        writing(
+            "trim of x, which has no padding",
+            inputs,
+            |i, out| ours::bitwise_trim(&i.x.limbs, out, 0),
+            None::<fn(&Input, &mut Scratch)>,
+            |i, out| plain::trim(&i.x.limbs, out),
         ),
     ]
 }

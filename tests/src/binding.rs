@@ -331,6 +331,18 @@ pub fn bitwise_reverse(x: &[u32], start: i64, end: i64, out: &mut [u32], first: 
     unsafe { ql_bitwise_reverse(read(x), x.len(), start, end, write(out), out.len(), first) }
 }
 
+/// The shortest form of x, which may be padded here. Every other call refuses a padded operand with `Operand`, so limbs
+/// that come from elsewhere are trimmed first; a result is the shortest form already.
+///
+/// ```ignore
+/// let x = [5, 0, 0];
+/// let mut out = [0; 3];
+/// let length = bitwise_trim(&x, &mut out, 0).result()?; // 1: out begins with the limb 5
+/// ```
+pub fn bitwise_trim(x: &[u32], out: &mut [u32], first: u64) -> Written {
+    unsafe { ql_bitwise_trim(read(x), x.len(), write(out), out.len(), first) }
+}
+
 pub fn bitwise_bit_count(x: &[u32]) -> Value {
     unsafe { ql_bitwise_bit_count(read(x), x.len()) }
 }
@@ -443,6 +455,7 @@ extern "C" {
         first: u64,
     ) -> Written;
     fn ql_bitwise_reverse(x: In, nx: usize, start: i64, end: i64, out: Out, nout: usize, first: u64) -> Written;
+    fn ql_bitwise_trim(x: In, nx: usize, out: Out, nout: usize, first: u64) -> Written;
     fn ql_bitwise_bit_count(x: In, nx: usize) -> Value;
     fn ql_bitwise_length(x: In, nx: usize) -> Value;
     fn ql_bitwise_first_bit_set(x: In, nx: usize) -> Value;

@@ -98,6 +98,24 @@ impl Checker {
         got.result().ok().map(|length| buffer.inside()[first..first + length].to_vec())
     }
 
+    /// The library's answer to a call that writes nothing, alone.
+    pub fn ask_value(&mut self, call: &LimbCall) -> Value {
+        self.begin(|| call.as_c(None));
+        call_value(call)
+    }
+
+    /// What the library writes where there is room for that many limbs, or its refusal.
+    pub fn ask_write(&mut self, call: &LimbCall, room: usize) -> Result<Vec<u32>, u64> {
+        self.begin(|| call.as_c(None));
+        let first = self.random.below(3) as usize;
+        let mut out = vec![self.random.next_u32(); first + room];
+        let Written { refusal, length } = call_write(call, &mut out, first as u64);
+        match refusal {
+            0 => Ok(out[first..first + length as usize].to_vec()),
+            _ => Err(refusal),
+        }
+    }
+
     /// A fixnum call that is one of the edges.
     pub fn edge_fixnum(&mut self, call: FixnumCall) {
         if self.is_chosen() {

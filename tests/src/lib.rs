@@ -12,3 +12,4 @@ pub mod random_arguments;
 pub mod reference;
 pub mod refusal;
 pub mod rule_call;
+pub mod spellings;

@@ -29,6 +29,7 @@ pub fn call_write(call: &LimbCall, out: &mut [u32], first: u64) -> Written {
         ShiftRight => bitwise_shift_right(x, a, out, first),
         Rotate => bitwise_rotate(x, a, b, c, out, first),
         Reverse => bitwise_reverse(x, a, b, out, first),
+        Trim => bitwise_trim(x, out, first),
         FixnumToLimbs => fixnum_to_limbs(call.width, a, out, first),
         operation => unreachable!("{operation:?} writes no limbs"),
     }

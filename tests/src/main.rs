@@ -1,7 +1,7 @@
 //! Compares the C library with the second implementation: every edge of the calls, random calls, lists of calls, folds,
 //! and stored rules. Then compares the library's answers with each other: at each width with those at the greater ones,
-//! and folds and rules by their laws. Ends with status 1 at the first difference, and where some operation, width,
-//! refusal, place, case of a fold or a rule, or law was never seen.
+//! and spellings of integers, folds and rules by their laws. Ends with status 1 at the first difference, and where some
+//! operation, width, refusal, place, case of an operand, a fold or a rule, or law was never seen.
 
 mod agreement;
 mod binding;
@@ -15,6 +15,7 @@ mod fold_checker;
 mod folds;
 mod library;
 mod lists;
+mod operand_cases;
 mod options;
 mod outputs;
 mod random_calls;
@@ -23,6 +24,7 @@ mod rule_breaches;
 mod rule_cases;
 mod rule_checker;
 mod rules;
+mod spelling_laws;
 mod tally;
 mod whole_words;
 
@@ -46,13 +48,16 @@ fn main() {
     phase(&mut checker, "edges of the conversions", edges::conversion);
     phase(&mut checker, "random calls", |checker| random_calls::run(checker, options.calls));
     phase(&mut checker, "lists of rotate and reverse calls", |checker| lists::run(checker, options.lists));
+    let spellings =
+        phase(&mut checker, "spellings of integers", |checker| spelling_laws::run(checker, options.calls / 100));
     let agreement = phase(&mut checker, "widths that agree", |checker| agreement::run(checker, options.calls / 20));
     phase(&mut checker, "edges of the folds", edges::folds);
     let laws = phase(&mut checker, "random folds, and their laws", |checker| folds::run(checker, options.folds));
     phase(&mut checker, "edges of the rules", edges::rules);
     let rules = phase(&mut checker, "random rules, and their laws", |checker| rules::run(checker, &options));
-    println!("{agreement}\n{laws}\n{rules}\n\n{}", checker.tally);
-    let missing = [checker.tally.missing(), agreement.missing(), laws.missing(), rules.missing()].concat();
+    println!("{spellings}\n{agreement}\n{laws}\n{rules}\n\n{}", checker.tally);
+    let laws_missing = [spellings.missing(), agreement.missing(), laws.missing(), rules.missing()].concat();
+    let missing = [checker.tally.missing(), laws_missing].concat();
     if !missing.is_empty() {
         println!("NOT SEEN\n{}", missing.join("\n"));
         exit(1);

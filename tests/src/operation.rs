@@ -15,6 +15,7 @@ pub enum Operation {
     ShiftRight,
     Rotate,
     Reverse,
+    Trim,
     BitCount,
     Length,
     FirstBitSet,
@@ -26,7 +27,7 @@ pub enum Operation {
 use Operation::*;
 
 impl Operation {
-    pub const ALL: [Operation; 19] = [
+    pub const ALL: [Operation; 20] = [
         Not,
         And,
         Ior,
@@ -40,6 +41,7 @@ impl Operation {
         ShiftRight,
         Rotate,
         Reverse,
+        Trim,
         BitCount,
         Length,
         FirstBitSet,
@@ -64,6 +66,7 @@ impl Operation {
             ShiftRight => "ql_bitwise_shift_right",
             Rotate => "ql_bitwise_rotate",
             Reverse => "ql_bitwise_reverse",
+            Trim => "ql_bitwise_trim",
             BitCount => "ql_bitwise_bit_count",
             Length => "ql_bitwise_length",
             FirstBitSet => "ql_bitwise_first_bit_set",
@@ -154,7 +157,7 @@ pub const FIXNUM_NAMES: [&str; 41] = [
     "fxreverse-bit-field",
 ];
 
-/// The Scheme names of the limb calls.
+/// The Scheme names of the limb calls. Scheme has no trim: its integers have one spelling.
 pub const BITWISE_NAMES: [(&str, Operation); 17] = [
     ("bitwise-not", Not),
     ("bitwise-and", And),

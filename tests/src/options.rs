@@ -6,7 +6,8 @@ pub const USAGE: &str = "\
 usage: quebralua-tests [--seed N] [--calls N] [--lists N] [--folds N] [--rules N]
                        [--all-changes] [--edges-every N] [--no-guards] [--trace]
   --seed N         the seed of every random choice (default: from the clock); it is printed
-  --calls N        how many random calls, and a twentieth as many at every width (default 2000000)
+  --calls N        how many random calls, a twentieth as many at every width, and a hundredth as many spellings of
+                   integers (default 2000000)
   --lists N        how many random lists of fixnum rotations and reversals, and four times fewer of limbs (default 20000)
   --folds N        how many random folds at each width, and as many of each of their laws (default 500)
   --rules N        how many accepted random rules, each changed and cut in many ways (default 1000)

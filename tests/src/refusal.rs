@@ -13,7 +13,7 @@ pub const NOT_FIXNUM: u64 = 4;
 pub const DOMAIN: u64 = 5;
 /// The exact result is not a fixnum, or has over 1,024 limbs.
 pub const SIZE: u64 = 6;
-/// An operand has 0 limbs or over 1,024.
+/// An operand has 0 limbs or over 1,024, or is padded.
 pub const OPERAND: u64 = 7;
 /// The shortest result is longer than the capacity.
 pub const ROOM: u64 = 8;

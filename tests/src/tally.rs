@@ -2,6 +2,7 @@
 
 use crate::done_widths::DoneWidths;
 use crate::fold_cases::FoldCases;
+use crate::operand_cases::OperandCases;
 use crate::rule_cases::RuleCases;
 use quebralua_reference::call::{FixnumCall, LimbCall};
 use quebralua_reference::fixnum_answers::fixnum_answers;
@@ -24,6 +25,7 @@ pub struct Tally {
     fixnum: [Counts; 42],
     /// In the order of `Operation::ALL`.
     limbs: [Counts; Operation::ALL.len()],
+    operand_cases: OperandCases,
     /// In the order of `FoldOperation::ALL`.
     folds: [Counts; FoldOperation::ALL.len()],
     fold_cases: FoldCases,
@@ -39,6 +41,7 @@ impl Tally {
         Tally {
             fixnum: [NONE; 42],
             limbs: [NONE; Operation::ALL.len()],
+            operand_cases: OperandCases::new(),
             folds: [NONE; FoldOperation::ALL.len()],
             fold_cases: FoldCases::new(),
             rules: [NONE; RuleOperation::ALL.len()],
@@ -60,6 +63,7 @@ impl Tally {
     pub fn limbs(&mut self, call: &LimbCall, refusal: u64) {
         self.limbs[call.operation as usize][refusal as usize][0] += 1;
         self.total += 1;
+        self.operand_cases.count(call);
         if refusal == DONE {
             self.widths.limbs(call);
         }
@@ -85,8 +89,8 @@ impl Tally {
         }
     }
 
-    /// Every operation and possible answer, every width of an operation, and every case of a fold or a rule, that no
-    /// compared call has shown.
+    /// Every operation and possible answer, every width of an operation, and every case of an operand, a fold or a rule,
+    /// that no compared call has shown.
     pub fn missing(&self) -> Vec<String> {
         let mut missing = Vec::new();
         for (name, counts, possible) in self.rows() {
@@ -97,6 +101,7 @@ impl Tally {
             }
         }
         missing.extend(self.widths.missing());
+        missing.extend(self.operand_cases.missing());
         missing.extend(self.fold_cases.missing());
         missing.extend(self.rule_cases.missing());
         missing
@@ -133,7 +138,7 @@ fn shown(refusal: u64, place: u64) -> String {
 fn limb_answers(operation: Operation) -> &'static [u64] {
     use Operation::*;
     match operation {
-        Not | And | Ior | Xor | If => &[0, 7, 8],
+        Not | And | Ior | Xor | If | Trim => &[0, 7, 8],
         CopyBit | BitField | CopyBitField | ShiftRight | Rotate | Reverse => &[0, 5, 7, 8],
         Shift => &[0, 6, 7, 8],
         ShiftLeft => &[0, 5, 6, 7, 8],
@@ -155,6 +160,6 @@ impl fmt::Display for Tally {
             writeln!(f)?;
         }
         writeln!(f, "{:28}{:>10}  {}", "all", self.total, self.widths)?;
-        write!(f, "{}\n{}", self.fold_cases, self.rule_cases)
+        write!(f, "{}\n{}\n{}", self.operand_cases, self.fold_cases, self.rule_cases)
     }
 }

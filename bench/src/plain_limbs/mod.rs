@@ -35,6 +35,13 @@ pub fn shortest(limbs: &[u32]) -> usize {
     }
 }
 
+/// x without its padding.
+pub fn trim(x: &[u32], out: &mut [u32]) -> usize {
+    let length = shortest(x);
+    out[..length].copy_from_slice(&x[..length]);
+    length
+}
+
 /// 32 bits of two limbs, from bit k of the lower one on.
 fn join(low: u32, high: u32, k: usize) -> u32 {
     ((u64::from(high) << 32 | u64::from(low)) >> k) as u32

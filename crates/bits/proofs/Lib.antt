@@ -17,6 +17,7 @@ pub mod RotateLaws
 pub mod Locality
 pub mod CountLaws
 pub mod ListTheorem
+pub mod DoneLists
 pub mod FitsLaws
 pub mod LengthBounds
 pub mod RotationCounts

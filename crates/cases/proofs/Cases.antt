@@ -13,13 +13,13 @@ use Rattle.fxtable.specs.Domains.{leastWidth, largestWidth, isWidth, arg, accep
 use Rattle.fxtable.specs.Operations.{resultsOf, minus, partsOf}
 use Rattle.fxtable.specs.Table.{rows, isCode, rowOf}
 use Rattle.fxtable.specs.Calls as calls
-use Rattle.limbwords.specs.Value.{onTop, value, limbsOf, limbCount, shortest}
+use Rattle.limbwords.specs.Value.{onTop, value, limbsOf, limbCount, shortest, isShortest}
 use Rattle.outcomes.specs.Outcome.{guard, guardAt, mapDone, refusalOf}
 use Rattle.outcomes.specs.Tests.{allHold, firstFailedFrom, firstFailed, guardEach}
 use Rattle.outcomes.specs.Buffer.{capacity, laid, fitted, afterwards, countOf}
 use Rattle.limbstages.specs.Buffer.{stored, written}
 use Rattle.outcomes.specs.Number.{number}
-use Rattle.limbstages.specs.Stages.{mostLimbs, isOperand, operand, natural, isField, field, sized}
+use Rattle.limbstages.specs.Stages.{mostLimbs, hasLimbs, isOperand, operand, natural, isField, field, sized}
 use Rattle.limbs.specs.Operations.{notOutcome, bitwiseOutcome, shiftOutcome, rotateOutcome, reverseOutcome, bitCountOutcome, lengthOutcome, firstBitSetOutcome}
 use Rattle.cases.specs.Table.{given, stated, table}
 
@@ -28,6 +28,6 @@ unfolding odd testbit halvings bitLength consBit ofBits fits isNegative fill bit
     inField setField permuteField rotateIndex reverseIndex rotateBitField reverseBitField copyBitField copyBit onesBelow ones bitCount firstTrue firstBitSet
     answer resultsOf leastWidth largestWidth isWidth arg within accepts domainTestsFrom domainTests minus partsOf
     rows isCode rowOf calls.counted calls.isCount calls.fixnumTests calls.checked calls.outcome calls.fixnumAnswer
-    onTop value limbsOf limbCount shortest guard guardAt allHold firstFailedFrom firstFailed guardEach mapDone refusalOf capacity laid fitted afterwards countOf stored written number mostLimbs isOperand operand natural isField field sized
+    onTop value limbsOf limbCount shortest guard guardAt allHold firstFailedFrom firstFailed guardEach mapDone refusalOf capacity laid fitted afterwards countOf stored written number isShortest mostLimbs hasLimbs isOperand operand natural isField field sized
     notOutcome bitwiseOutcome shiftOutcome rotateOutcome reverseOutcome bitCountOutcome lengthOutcome firstBitSetOutcome given stated table
 cases-M = refl

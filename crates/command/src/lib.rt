@@ -9,6 +9,7 @@ use fxcalls::fx::reply_fx;
 use fxcalls::list::reply_list;
 use fxcalls::widths::reply_widths;
 use limbcalls::bitwise::reply_bitwise;
+use limbcalls::trim::reply_trim;
 use line::count;
 use line::is_word;
 use line::number::line_of;
@@ -74,18 +75,19 @@ pub fn task_of(line: &[u8]) -> Task {
     Task::Words
 }
 
-// `fold`, which is 5 among the commands, always reads input and does not come here; `batch` comes with a word too many.
+// `fold`, which is 6 among the commands, always reads input and does not come here; `batch` comes with a word too many.
 fn reply_command(line: &[u8], out: &mut [u8]) -> Reply {
     match line_of(line, 1, Table::Commands) {
         1 => reply_fx(line, b"\n", out),
         2 => reply_widths(line, out),
         3 => reply_bitwise(line, out),
-        4 => reply_list(line, out),
-        6 => reply_join(line, out),
-        7 => reply_rule(line, out),
-        8 => reply_ops(line, out),
-        9 => reply_help(line, out),
-        10 => trouble(line, 2, Expected::End, out),
+        4 => reply_trim(line, out),
+        5 => reply_list(line, out),
+        7 => reply_join(line, out),
+        8 => reply_rule(line, out),
+        9 => reply_ops(line, out),
+        10 => reply_help(line, out),
+        11 => trouble(line, 2, Expected::End, out),
         _ => {
             if is_word(line, 1, b"--version") {
                 done(put(&VERSION, out, 0))

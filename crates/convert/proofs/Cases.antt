@@ -7,13 +7,13 @@ use Rattle.bits.specs.Testbit.{odd, testbit, halvings, bitLength, consBit, ofBi
 use Rattle.bits.specs.Shift.{floorDiv, shiftRight}
 use Rattle.bits.specs.Division.{modℕ}
 use Rattle.fxtable.specs.Domains.{leastWidth, largestWidth, isWidth}
-use Rattle.limbwords.specs.Value.{onTop, value, limbsOf, limbCount, shortest}
+use Rattle.limbwords.specs.Value.{onTop, value, limbsOf, limbCount, shortest, isShortest}
 use Rattle.outcomes.specs.Outcome.{Outcome, guard, guardAt, mapDone, refusalOf}
 use Rattle.outcomes.specs.Buffer.{capacity, laid, fitted, afterwards, countOf}
-use Rattle.limbstages.specs.Buffer.{stored, written}
+use Rattle.limbstages.specs.Buffer.{stored, written, copied}
 use Rattle.outcomes.specs.Number.{number}
-use Rattle.limbstages.specs.Stages.{mostLimbs, isOperand, operand}
-use Rattle.convert.specs.Convert.{toFixnumOutcome, toLimbsOutcome, copied}
+use Rattle.limbstages.specs.Stages.{mostLimbs, hasLimbs, isOperand, operand}
+use Rattle.convert.specs.Convert.{toFixnumOutcome, toLimbsOutcome}
 
 -- the buffer after a call
 abbrev after : Outcome ℤ → List ℕ → ℕ → List ℕ
@@ -38,15 +38,19 @@ pub cases-to-fixnum :
     × (number (toFixnumOutcome 64 (0xFFFFFFFF ∷ 0x7FFFFFFF ∷ 0xFFFFFFFF ∷ [])) ≡ record { refusal = 6; value = pos 0 })
     -- 2^64, which is no word
     × (number (toFixnumOutcome 64 (0 ∷ 0 ∷ 1 ∷ [])) ≡ record { refusal = 6; value = pos 0 })
-    -- padded limbs: 5 and -2
-    × (number (toFixnumOutcome 24 (5 ∷ 0 ∷ 0 ∷ 0 ∷ [])) ≡ record { refusal = 0; value = pos 5 })
-    × (number (toFixnumOutcome 24 (0xFFFFFFFE ∷ 0xFFFFFFFF ∷ 0xFFFFFFFF ∷ [])) ≡ record { refusal = 0; value = negsuc 1 })
+    -- padded limbs, of 5, -2 and 0; and of 2^64, which is no fixnum either: 7 comes first
+    × (number (toFixnumOutcome 24 (5 ∷ 0 ∷ 0 ∷ 0 ∷ [])) ≡ record { refusal = 7; value = pos 0 })
+    × (number (toFixnumOutcome 24 (0xFFFFFFFE ∷ 0xFFFFFFFF ∷ 0xFFFFFFFF ∷ [])) ≡ record { refusal = 7; value = pos 0 })
+    × (number (toFixnumOutcome 24 (0 ∷ 0 ∷ [])) ≡ record { refusal = 7; value = pos 0 })
+    × (number (toFixnumOutcome 64 (0 ∷ 0 ∷ 1 ∷ 0 ∷ [])) ≡ record { refusal = 7; value = pos 0 })
     -- no limb; and no width either, which comes first
     × (number (toFixnumOutcome 24 []) ≡ record { refusal = 7; value = pos 0 })
     × (number (toFixnumOutcome 23 []) ≡ record { refusal = 1; value = pos 0 })
+    × (number (toFixnumOutcome 23 (5 ∷ 0 ∷ [])) ≡ record { refusal = 1; value = pos 0 })
     × (number (toFixnumOutcome 65 (5 ∷ [])) ≡ record { refusal = 1; value = pos 0 })
-unfolding odd testbit consBit ofBits fits fill leastWidth largestWidth isWidth onTop value guard guardAt mostLimbs isOperand operand number toFixnumOutcome
-cases-to-fixnum = (refl, refl, refl, refl, refl, refl, refl, refl, refl, refl, refl, refl, refl, refl, refl, refl, refl, refl, refl)
+unfolding odd testbit halvings bitLength consBit ofBits fits fill leastWidth largestWidth isWidth onTop value limbCount isShortest guard guardAt mostLimbs hasLimbs isOperand
+    operand number toFixnumOutcome
+cases-to-fixnum = (refl, refl, refl, refl, refl, refl, refl, refl, refl, refl, refl, refl, refl, refl, refl, refl, refl, refl, refl, refl, refl, refl)
 
 pub cases-to-limbs :
     -- 2^23 - 1 and 2^23, -2^23 and one less, in a buffer of two limbs from its second on
@@ -77,11 +81,11 @@ unfolding halvings bitLength fits floorDiv shiftRight modℕ leastWidth largestW
     written afterwards toLimbsOutcome
 cases-to-limbs = (refl, refl, refl, refl, refl, refl, refl, refl, refl, refl, refl, refl, refl, refl, refl, refl, refl, refl, refl, refl)
 
--- padded limbs of -2^63, to a fixnum and back
+-- the limbs of -2^63, to a fixnum and back
 pub case-back :
-    copied (written (toLimbsOutcome 64 (number (toFixnumOutcome 64 (0 ∷ 0x80000000 ∷ 0xFFFFFFFF ∷ [])) .value)) (7 ∷ 7 ∷ 7 ∷ []) 1) 1
-    (after (toLimbsOutcome 64 (number (toFixnumOutcome 64 (0 ∷ 0x80000000 ∷ 0xFFFFFFFF ∷ [])) .value)) (7 ∷ 7 ∷ 7 ∷ []) 1)
+    copied (written (toLimbsOutcome 64 (number (toFixnumOutcome 64 (0 ∷ 0x80000000 ∷ [])) .value)) (7 ∷ 7 ∷ 7 ∷ []) 1) 1
+    (after (toLimbsOutcome 64 (number (toFixnumOutcome 64 (0 ∷ 0x80000000 ∷ [])) .value)) (7 ∷ 7 ∷ 7 ∷ []) 1)
     ≡ 0 ∷ 0x80000000 ∷ []
 unfolding odd testbit halvings bitLength consBit ofBits fits fill floorDiv shiftRight modℕ leastWidth largestWidth isWidth onTop value limbsOf limbCount
-    shortest guard guardAt mapDone refusalOf capacity laid fitted countOf stored written afterwards mostLimbs isOperand operand number toFixnumOutcome toLimbsOutcome copied
+    shortest guard guardAt mapDone refusalOf capacity laid fitted countOf stored written afterwards isShortest mostLimbs hasLimbs isOperand operand number toFixnumOutcome toLimbsOutcome copied
 case-back = refl

@@ -1,31 +1,31 @@
 -- To limbs and back, and to a fixnum and back: where both calls are done, the integer is the same. Assumes nothing.
-use Prim.Native.Nat.{ℕ, _≤_, _<_}
+use Prim.Native.Nat.{ℕ, _^_, _≤_, _<_}
 use native.Mathlib.Omega.{arith}
 use mathlib.Core.Path.{_≡_, refl, sym, ap, _∙_}
 use mathlib.Core.Bool.{Bool, true, false}
 use mathlib.Core.List.{List}
 use lib.Dec.{lit<}
 use lib.IntN.{ℤ}
-use lib.ListN.{length}
+use lib.ListN.{length, getD}
 use Rattle.bits.specs.Testbit.{fits}
 use Rattle.bits.proofs.LengthLaws.{fits-length, fits-mono}
 use Rattle.bits.proofs.FitsLaws.{is-true, holds}
 use Rattle.fxtable.specs.Domains.{isWidth}
 use Rattle.fxtable.proofs.CallLaws.{width-bounds}
 use Rattle.limbwords.specs.Value.{value, shortest}
-use Rattle.limbwords.proofs.ValueLaws.{value-shortest, length-shortest, limbCount-le}
+use Rattle.limbwords.proofs.ValueLaws.{value-shortest, length-shortest, limbCount-le, isShortest-unique}
 use Rattle.outcomes.specs.declared.number.Number.{Number}
 use Rattle.limbstages.specs.declared.Written.{Written}
 use Rattle.outcomes.specs.Outcome.{Outcome, done, refuse, guard, guardAt, mapDone, refusalOf}
 use Rattle.outcomes.specs.Buffer.{capacity, fitted, countOf}
 use Rattle.outcomes.proofs.OutcomeLaws.{passed, stage-passed}
 use Rattle.outcomes.proofs.BufferLaws.{fitted-enough}
-use Rattle.limbstages.specs.Buffer.{stored, written, Writes}
+use Rattle.limbstages.specs.Buffer.{stored, written, Writes, copied}
 use Rattle.outcomes.specs.Number.{number}
 use Rattle.limbstages.specs.Stages.{isOperand, operand}
-use Rattle.limbstages.proofs.StageLaws.{operand-passed, operand-legal}
+use Rattle.limbstages.proofs.StageLaws.{operand-passed, operand-legal, operand-shortest}
 use Rattle.limbstages.proofs.WritesLaws.{writes-as, written-limbs, shortest-operand}
-use Rattle.convert.specs.Convert.{toFixnumOutcome, toLimbsOutcome, copied}
+use Rattle.convert.specs.Convert.{toFixnumOutcome, toLimbsOutcome}
 
 -- ---- outcomes
 
@@ -46,15 +46,15 @@ module _ (w : ℕ) (n : ℤ) where
       ∙ passed 6 (done (value (shortest n))) (ap (fits w) v ∙ f)
       ∙ ap done v
 
--- limbs that convert are those of a fixnum
-pub to-fixnum-done : (w : ℕ) (x : List ℕ) {z : ℤ} → toFixnumOutcome w x ≡ done z → (toLimbsOutcome w z ≡ done z) × (z ≡ value x)
+-- limbs that convert are those of a fixnum, and legal
+pub to-fixnum-done : (w : ℕ) (x : List ℕ) {z : ℤ} → toFixnumOutcome w x ≡ done z → (toLimbsOutcome w z ≡ done z) × ((z ≡ value x) × (isOperand x ≡ true))
 unfolding toFixnumOutcome
 to-fixnum-done w x {z} e =
     let a = stage-passed (isWidth w) 1 _ e in
     let b = operand-legal x _ (a .1) in
     let c = stage-passed (fits w (value x)) 6 (done (value x)) (b .1) in
     let v : z ≡ value x = cc (c .1) in
-    (to-limbs w z (a .0) (ap (fits w) v ∙ c .0), v)
+    (to-limbs w z (a .0) (ap (fits w) v ∙ c .0), (v, b .0))
 
 -- ---- answers
 
@@ -85,7 +85,7 @@ limbs-done w n out first e =
 
 pub to-limbs-and-back : (w : ℕ) (n : ℤ) {out out′ : List ℕ} {first : ℕ} {r : Written} → Writes (toLimbsOutcome w n) out first r out′ → r .refusal ≡ 0
     → number (toFixnumOutcome w (copied r first out′)) ≡ record { refusal = 0; value = n }
-unfolding copied number
+unfolding number
 to-limbs-and-back w n {out} {out′} {first} {r} c h =
     let (a, f) = limbs-done w n out first (sym (ap (λ (r : Written). r .refusal) (c .answer)) ∙ h) in
     let same = written-limbs (writes-as (sym (to-limbs w n a f)) c) h in
@@ -105,13 +105,13 @@ module _ (w : ℕ) (x : List ℕ) {r : Number} (c : r ≡ number (toFixnumOutcom
   pub back-to-limbs : toLimbsOutcome w (r .value) ≡ done (value x)
   back-to-limbs = ap (toLimbsOutcome w) same-integer ∙ to-fixnum-done w x converted .0
 
-  -- the limbs that are written are the shortest with the same integer
+  -- the limbs that are written have the same integer, and are the limbs that were converted
   pub to-fixnum-and-back : {out out′ : List ℕ} {first : ℕ} {r′ : Written} → Writes (toLimbsOutcome w (r .value)) out first r′ out′ → r′ .refusal ≡ 0
-      → (value (copied r′ first out′) ≡ value x) × (copied r′ first out′ ≡ shortest (value x))
-  unfolding copied
+      → (value (copied r′ first out′) ≡ value x) × (((i : ℕ) → getD x i 0 < 2 ^ 32) → copied r′ first out′ ≡ x)
   to-fixnum-and-back c′ h′ =
       let same = written-limbs (writes-as (sym back-to-limbs) c′) h′ in
-      (ap value same ∙ value-shortest (value x), same)
+      let legal = to-fixnum-done w x converted .1 .1 in
+      (ap value same ∙ value-shortest (value x), λ b. same ∙ sym (isShortest-unique x b (operand-shortest x legal)))
 
 -- ---- a fixnum has at most two limbs, so room for two is always enough
 

@@ -1,15 +1,12 @@
 -- The outcome of each conversion: the first refusal in 01's order, or the integer.
 --   toFixnumOutcome w x      ==  the limbs x as a fixnum at width w: refusals 1, 7, 6
 --   toLimbsOutcome w n       ==  the fixnum n at width w as limbs: refusals 1, 4; 8 is given where the limbs are written
---   copied r first out       ==  a copy of the limbs that a call with the answer r has written to the buffer, from the first limb on
 use Prim.Native.Nat.{ℕ}
 use mathlib.Core.List.{List}
 use lib.IntN.{ℤ}
-use lib.ListN.{take, drop}
 use Rattle.bits.specs.Testbit.{fits}
 use Rattle.fxtable.specs.Domains.{isWidth}
 use Rattle.limbwords.specs.Value.{value}
-use Rattle.limbstages.specs.declared.Written.{Written}
 use Rattle.outcomes.specs.Outcome.{Outcome, done, guard}
 use Rattle.limbstages.specs.Stages.{operand}
 
@@ -18,6 +15,3 @@ toFixnumOutcome w x = guard (isWidth w) 1 (operand x (guard (fits w (value x)) 6
 
 unfoldable pub toLimbsOutcome : ℕ → ℤ → Outcome ℤ
 toLimbsOutcome w n = guard (isWidth w) 1 (guard (fits w n) 4 (done n))
-
-unfoldable pub copied : Written → ℕ → List ℕ → List ℕ
-copied r first out = take (r .length) (drop first out)

@@ -13,8 +13,8 @@ use outcomes::number::Number;
 use outcomes::number::refuse_number;
 use words::sign::is_fixnum;
 
-// Refusals in this order: 1 for the width, 7 for an operand of no limb or of more than 1,024, 6 for an integer that is no fixnum
-// at the width. One that is too large for a word is none at any width.
+// Refusals in this order: 1 for the width, 7 for an operand of no limb, of more than 1,024, or of more than it needs, 6 for an integer
+// that is no fixnum at the width. One that is too large for a word is none at any width.
 pub fn limbs_to_fixnum(width: u64, x: &[u32]) -> Number
     ensures { λ r. ⌜ r ≡ number (toFixnumOutcome width (now (x .entry))) ⌝ }
 {

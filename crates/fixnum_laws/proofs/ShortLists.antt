@@ -2,18 +2,17 @@
 use Prim.Native.Nat.{ℕ, _+_, _-_, _%_, _≤_, _<_, _^_}
 use native.Mathlib.Nat.{le-of-lt, lt-of-lt-of-le, mod-lt}
 use native.Mathlib.Omega.{arith}
-use mathlib.Core.Path.{_≡_, refl, ap, _∙_, subst}
+use mathlib.Core.Path.{_≡_, refl, subst}
 use mathlib.Core.Bool.{true}
 use mathlib.Core.List.{List, [], _∷_}
 use lib.IntN.{ℤ, pos}
 use Rattle.bits.specs.Testbit.{fits}
-use Rattle.bits.specs.Division.{modℕ, «mod»}
 use Rattle.bits.specs.Field.{rotateBitField}
 use Rattle.bits.specs.FieldList.{FieldCall, rotate, reverse, runCall, runCalls}
 use Rattle.bits.proofs.FitsLaws.{pow-fits}
-use Rattle.bits.proofs.IntegerLaws.{pos-sub-ge}
-use Rattle.bits.proofs.RotateLaws as rotations
 use Rattle.bits.proofs.ListTheorem.{list-theorem, calls-fit}
+use Rattle.bits.proofs.DoneLists.{AllDone, runEach}
+use Rattle.bits.proofs.DoneLists as lists
 use Rattle.outcomes.specs.Outcome.{done}
 use Rattle.fxtable.specs.Calls.{answer}
 use Rattle.fxtable.specs.Domains.{isWidth}
@@ -30,14 +29,10 @@ module _ (w : ℕ) (a : isWidth w ≡ true) (start end : ℕ) (h : start < end) 
   count-is-done : (c : ℕ) → c ≤ end - start → isDone w start end (rotate (pos c)) ≡ true
   count-is-done = count-done w start end (le-of-lt h)
 
-  AllDone : List FieldCall → Type 0
-  AllDone [] = Unit {0}
-  AllDone (call ∷ calls) = (isDone w start end call ≡ true) × AllDone calls
+  abbrev Dones : List FieldCall → Type 0
+  Dones = AllDone (isDone w start end)
 
-  abbrev runEach : List FieldCall → ℤ → ℤ
-  runEach = runCalls (λ _. true) start end
-
-  gives : (calls : List FieldCall) (x : ℤ) → fits w x ≡ true → AllDone calls → Gives w start end calls x (runEach calls x)
+  gives : (calls : List FieldCall) (x : ℤ) → fits w x ≡ true → Dones calls → Gives w start end calls x (runEach start end calls x)
   unfolding Gives runCalls AllDone
   gives [] x f d = refl
   gives (call ∷ calls) x f d = (
@@ -46,48 +41,42 @@ module _ (w : ℕ) (a : isWidth w ≡ true) (start end : ℕ) (h : start < end) 
     gives calls (runCall start end call x) (calls-fit (λ _. true) start end h w k (call ∷ []) x f) (d .1),
   )
 
-  agrees : (one other : List FieldCall) (x : ℤ) → fits w x ≡ true → AllDone one → AllDone other → runEach one x ≡ runEach other x
+  agrees : (one other : List FieldCall) (x : ℤ) → fits w x ≡ true → Dones one → Dones other → runEach start end one x ≡ runEach start end other x
       → Agree w start end one other x
   unfolding Agree
   agrees one other x f d e q =
-      (runEach other x, subst (λ (y : ℤ). Gives w start end one x y) q (gives one x f d), gives other x f e)
+      (runEach start end other x, subst (λ (y : ℤ). Gives w start end one x y) q (gives one x f d), gives other x f e)
 
   mod-le : (n : ℕ) → n % (end - start) ≤ end - start
   mod-le n = let p : 0 < end - start = omega arith in le-of-lt (mod-lt n p)
 
   pub twice : (a b : ℕ) → a ≤ end - start → b ≤ end - start → (x : ℤ) → fits w x ≡ true
       → Agree w start end (rotate (pos a) ∷ rotate (pos b) ∷ []) (rotate (pos ((a + b) % (end - start))) ∷ []) x
-  unfolding AllDone runCalls runCall «mod» modℕ
+  unfolding AllDone
   twice a b l m x f =
       agrees (rotate (pos a) ∷ rotate (pos b) ∷ []) (rotate (pos ((a + b) % (end - start))) ∷ []) x f
       (count-is-done a l, (count-is-done b m, tt)) (count-is-done ((a + b) % (end - start)) (mod-le (a + b)), tt)
-      (rotations.rotate-rotate start end x (pos a) (pos b))
+      (lists.rotate-rotate start end a b x)
 
   pub between-reversals : (a : ℕ) → a ≤ end - start → (x : ℤ) → fits w x ≡ true
       → Agree w start end (reverse ∷ rotate (pos a) ∷ reverse ∷ []) (rotate (pos ((end - start - a) % (end - start))) ∷ []) x
-  unfolding AllDone isDone runCalls runCall «mod» modℕ
+  unfolding AllDone isDone
   between-reversals a l x f =
       agrees (reverse ∷ rotate (pos a) ∷ reverse ∷ []) (rotate (pos ((end - start - a) % (end - start))) ∷ []) x f
       (refl, (count-is-done a l, (refl, tt))) (count-is-done ((end - start - a) % (end - start)) (mod-le (end - start - a)), tt)
-      (rotations.reverse-rotate-reverse start end x (pos a)
-      ∙ ap (λ (c : ℤ). rotateBitField x start end (pos (modℕ c (end - start)))) (pos-sub-ge (end - start) a l))
+      (lists.reverse-rotate-reverse start end a l x)
 
   pub twice-reversed : (x : ℤ) → fits w x ≡ true → Agree w start end (reverse ∷ reverse ∷ []) [] x
-  unfolding AllDone isDone runCalls runCall
-  twice-reversed x f = agrees (reverse ∷ reverse ∷ []) [] x f (refl, (refl, tt)) tt (rotations.reverse-involutive start end x)
+  unfolding AllDone isDone runCalls
+  twice-reversed x f = agrees (reverse ∷ reverse ∷ []) [] x f (refl, (refl, tt)) tt (lists.reverse-reverse start end x)
 
   pub back : (a : ℕ) → a ≤ end - start → (x : ℤ) → fits w x ≡ true
       → Agree w start end (rotate (pos a) ∷ rotate (pos ((end - start - a) % (end - start))) ∷ []) [] x
-  unfolding AllDone runCalls runCall «mod» modℕ
+  unfolding AllDone runCalls
   back a l x f =
-      let y = rotateBitField x start end (pos a) in
-      let n = end - start - a in
-      let e : a + n ≡ end - start = omega arith in
-      agrees (rotate (pos a) ∷ rotate (pos (n % (end - start))) ∷ []) [] x f (count-is-done a l, (count-is-done (n % (end - start)) (mod-le n), tt)) tt
-      (rotations.rotate-mod start end y (pos n)
-      ∙ rotations.rotate-compose start end x (pos a) (pos n)
-      ∙ ap (λ (c : ℕ). rotateBitField x start end (pos c)) e
-      ∙ rotations.rotate-full start end x)
+      let n = (end - start - a) % (end - start) in
+      agrees (rotate (pos a) ∷ rotate (pos n) ∷ []) [] x f (count-is-done a l, (count-is-done n (mod-le (end - start - a)), tt)) tt
+      (lists.rotate-back start end a l x)
 
   witness-fits : fits w (pos (2 ^ start)) ≡ true
   witness-fits = pow-fits w start (lt-of-lt-of-le h k)

@@ -1,1 +1,4 @@
+pub mod Replies
 pub mod Lists
+pub mod Spellings
+pub mod Operands

@@ -26,13 +26,13 @@ use output::put_decimal;
 use text::LimbReading;
 
 // Room for an operand: 1,024 limbs of digits and one for the sign.
-fn operand_space() -> [u32; 1025]
+pub fn operand_space() -> [u32; 1025]
     ensures { λ r. ⌜ 1025 ≡ length r ⌝ }
 {
     [0; 1025]
 }
 
-fn result_space() -> [u32; 1024]
+pub fn result_space() -> [u32; 1024]
     ensures { λ r. ⌜ 1024 ≡ length r ⌝ }
 {
     [0; 1024]
@@ -56,7 +56,7 @@ fn put_short(x: &[u32], out: &mut [u8], at: usize) -> usize {
 }
 
 // An integer, in decimal too where a word holds it.
-fn put_limbs(x: &mut [u32], out: &mut [u8], at: usize) -> usize {
+pub fn put_limbs(x: &mut [u32], out: &mut [u8], at: usize) -> usize {
     let at = put_short(x, out, at);
     let mut space = text_space();
     let n = spelling::spell_limbs(x, &mut space);

@@ -2,3 +2,4 @@
 pub mod bitwise;
 mod explain;
 pub mod rules;
+pub mod trim;

@@ -5,7 +5,7 @@ use native.Mathlib.Omega.{arith}
 use mathlib.Core.Path.{_≡_, refl, sym, ap, ap₂, _∙_, subst}
 use mathlib.Core.Bool.{Bool, true, false, not, true≢false}
 use mathlib.Core.List.{List}
-use lib.Bits.{bitXor}
+use lib.Bits.{bitXor, xor-self}
 use lib.Dec.{eqb}
 use lib.IntN.{ℤ, pos, negsuc}
 use lib.ListN.{length, getD}
@@ -19,9 +19,9 @@ use Rattle.words.proofs.MagnitudeLaws.{bitLength-mag}
 use Rattle.words.proofs.CountWords.{bitCount-mag}
 use Rattle.bits.proofs.LengthLaws.{bitLength-le, bitLength-least-bits, testbit-top}
 use Rattle.bits.proofs.CountLaws.{onesBelow-ext, onesBelow-le, onesBelow-split, ones-onesBelow, firstBitSet-unique, firstBitSet-none}
-use Rattle.limbwords.specs.Value.{value}
+use Rattle.limbwords.specs.Value.{value, limbCount}
 use Rattle.limbwords.specs.Results.{bitsFrom}
-use Rattle.limbwords.proofs.ValueLaws.{small-bits, testbit-value}
+use Rattle.limbwords.proofs.ValueLaws.{small-bits, testbit-value, value-length}
 use Rattle.limbwords.proofs.SignLimbs.{long, flipped, operand-sign}
 use Rattle.limbwords.proofs.LimbLaws.{bitsFrom-lt, testbit-bitsFrom, limb-value, bitsFrom-above, length-below}
 
@@ -143,15 +143,31 @@ module _ (xs : List ℕ) (s : ℕ) (e : s ≡ bitsFrom (value xs) (32 * length x
         ∙ ap (λ (k : ℕ). onesBelow k (testbit (pos (mag (value xs))))) next
 
     -- a limb that is what continues the operand can go
-    pub length-without : bitLength (value xs) ≤ 32 * j + 32 → getD xs j 0 ≡ s → bitLength (value xs) ≤ 32 * j
+    length-without : bitLength (value xs) ≤ 32 * j + 32 → getD xs j 0 ≡ s → bitLength (value xs) ≤ 32 * j
     length-without g q = length-below (value xs) (32 * j) (32 * length xs) g (long xs s e h) (sym limb ∙ q ∙ e)
 
     -- the highest limb that is not gives the length
-    pub length-with : {r : ℕ} → bitLength (value xs) ≤ 32 * j + 32 → (getD xs j 0 ≡ s → ⊥) → r ≡ bitLength (pos (bitXor (getD xs j 0) s))
+    length-with : {r : ℕ} → bitLength (value xs) ≤ 32 * j + 32 → (getD xs j 0 ≡ s → ⊥) → r ≡ bitLength (pos (bitXor (getD xs j 0) s))
         → 32 * j + r ≡ bitLength (value xs)
     length-with g q p =
         ap (λ (r : ℕ). 32 * j + r) (p ∙ ap (λ (n : ℕ). bitLength (pos n)) (flipped xs s e h (getD xs j 0) (32 * j) limb))
         ∙ length-limb (value xs) (32 * j) (32 * length xs) g (long xs s e h) (λ w. q (limb ∙ w ∙ sym e))
+
+    -- the last limb gives it where the limbs are the fewest
+    pub length-last : {r : ℕ} → length xs ≡ limbCount (value xs) → j + 1 ≡ length xs → r ≡ bitLength (pos (bitXor (getD xs j 0) s))
+        → 32 * j + r ≡ bitLength (value xs)
+    unfolding limbCount bitLength halvings
+    length-last {r} c k p = go (eqb (getD xs j 0) s) refl
+      where
+        bound : bitLength (value xs) ≤ 32 * j + 32
+        bound = omega (arith, value-length xs h)
+
+        go : (t : Bool) → eqb (getD xs j 0) s ≡ t → 32 * j + r ≡ bitLength (value xs)
+        go true q =
+            let same = eqb-true (getD xs j 0) s q in
+            let none : r ≡ 0 = p ∙ ap (λ (n : ℕ). bitLength (pos n)) (ap (λ (a : ℕ). bitXor a s) same ∙ xor-self s) in
+            omega (arith, c, length-without bound same)
+        go false q = length-with bound (eqb-false (getD xs j 0) s q) p
 
   module _ (j : ℕ) (b : (i : ℕ) → getD xs i 0 < 2 ^ 32) {n r : ℕ} (p : n ≡ onesOf xs j) where
     -- the ones of two limbs more

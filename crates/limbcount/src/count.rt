@@ -6,7 +6,7 @@ ghost use lib.IntN.{pos};
 ghost use lib.ListN.{length};
 ghost use Rattle.bits.specs.Testbit.{bitLength};
 ghost use Rattle.bits.specs.Count.{ones, bitCount, firstBitSet};
-ghost use Rattle.limbwords.specs.Value.{value};
+ghost use Rattle.limbwords.specs.Value.{value, limbCount};
 use limbwords::limb::padding;
 use words::sign::from_magnitude;
 
@@ -43,21 +43,15 @@ pub fn bit_count(x: &[u32]) -> i64
     from_magnitude(sign != 0, n)
 }
 
-// From the last limb downwards to one that does not only continue the sign.
+// All limbs but the last, and of that the bits below the sign. Where it has none, the limb below begins with one, since the limbs
+// are the fewest.
 pub fn bit_length(x: &[u32]) -> u64
     requires { ⌜ (0 < length (now x)) × (length (now x) ≤ 1024) ⌝ }
+    requires { ⌜ length (now x) ≡ limbCount (value (now x)) ⌝ }
     ensures { λ r. ⌜ r ≡ bitLength (value (now (x .entry))) ⌝ }
 {
-    let sign = padding(x);
-    let mut n = x.len();
-    while 0 < n {
-        let top = x[n - 1];
-        if top != sign {
-            return 32 * ((n - 1) as u64) + length_of(top ^ sign);
-        }
-        n -= 1;
-    }
-    0
+    let last = x.len() - 1;
+    32 * (last as u64) + length_of(x[last] ^ padding(x))
 }
 
 // The lowest limb that is not zero, and in it the lowest one.

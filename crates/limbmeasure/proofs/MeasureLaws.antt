@@ -5,7 +5,7 @@ use mathlib.Core.Path.{_≡_, refl, sym, ap, _∙_}
 use mathlib.Core.Bool.{Bool, true, false, cond, not}
 use lib.Dec.{eqb, ltb, lit<}
 use lib.IntN.{ℤ, pos}
-use borrow.Author.Tests.{not-true, not-false, ltb-true, ltb-false, eqb-true, eqb-false}
+use borrow.Author.Tests.{not-true, not-false, ltb-true, ltb-false, eqb-true, eqb-false, eq-eqb, ne-eqb}
 use Rattle.bits.specs.Testbit.{isNegative, testbit, bitLength}
 use Rattle.bits.proofs.TestbitLaws.{by-lt, testbit-above, testbit-zero}
 use Rattle.bits.proofs.ValueLaws.{testbit-mask}
@@ -13,6 +13,7 @@ use Rattle.bits.proofs.LengthLaws.{bitLength-least-bits}
 use Rattle.limbwords.specs.Value.{limbCount}
 use Rattle.limbwords.specs.Results.{bitsFrom, limbAt}
 use Rattle.limbmeasure.specs.Padding.{continued}
+use Rattle.limbwords.proofs.ValueLaws.{limbCount-le}
 use Rattle.limbwords.proofs.LimbLaws.{bitsFrom-lt, testbit-bitsFrom, bitsFrom-above, length-below, top-bit}
 
 -- the top bit of a continuing limb is that of the limb below it
@@ -116,10 +117,21 @@ module _ {z : ℤ} {enough n high low : ℕ} {padding : Bool} (e : Enough z enou
   pub counted : not padding ≡ true → n ≡ limbCount z
   counted q = settled-at z n p (e .size) (eqb-false _ _ (sym tested ∙ not-true _ q))
 
+  -- whether n limbs are the fewest
+  pub fewest : not padding ≡ eqb n (limbCount z)
+  fewest = go padding refl
+    where
+      go : (b : Bool) → padding ≡ b → not b ≡ eqb n (limbCount z)
+      go true q = sym (ne-eqb n (limbCount z) (λ same. omega (arith, limbCount-le z (n - 1) (one-less (ap not q) .size))))
+      go false q = sym (eq-eqb n (limbCount z) (counted (ap not q)))
+
 -- one limb is the least
 pub one-limb : (z : ℤ) → bitLength z < 32 * 1 → 1 ≡ limbCount z
 unfolding limbCount
 one-limb z h = omega arith
+
+pub fewest-one : (z : ℤ) (n : ℕ) → n ≡ 1 → bitLength z < 32 * n → eqb n 1 ≡ eqb n (limbCount z)
+fewest-one z n e h = ap (eqb n) (one-limb z (omega arith))
 
 pub counted-one : {z : ℤ} {enough n high : ℕ} → Enough z enough n high → n ≤ 1 → n ≡ limbCount z
 counted-one {z} {n} e h =

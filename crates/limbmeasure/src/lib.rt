@@ -6,7 +6,7 @@ ghost use lib.Dec.{eqb};
 ghost use lib.ListN.{length};
 ghost use Rattle.bits.specs.Testbit.{bitLength};
 ghost use Rattle.bits.specs.Logical.{bitwise};
-ghost use Rattle.limbwords.specs.Value.{value, limbCount};
+ghost use Rattle.limbwords.specs.Value.{value, limbCount, isShortest};
 ghost use Rattle.limbwords.specs.Results.{logicOf, meaning, Proper};
 ghost use Rattle.limbmeasure.specs.Padding.{continued};
 use limbwords::any::limb_of;
@@ -24,6 +24,15 @@ fn is_padding(low: u32, high: u32) -> bool
     } else {
         high == 0xFFFF_FFFF
     }
+}
+
+// Whether x has no limb more than its value needs.
+pub fn is_shortest(x: &[u32]) -> bool
+    requires { ⌜ 0 < length (now x) ⌝ }
+    ensures { λ r. ⌜ r ≡ isShortest (now (x .entry)) ⌝ }
+{
+    let n = x.len();
+    n == 1 || !is_padding(x[n - 2], x[n - 1])
 }
 
 // The length of the shortest limbs with the value of x: a last limb that only continues the one below it can go.

@@ -11,7 +11,7 @@ use Rattle.bits.specs.Shift.{arithmeticShift, shiftLeft, shiftRight}
 use Rattle.bits.specs.Field.{copyBit, bitField, copyBitField, rotateBitField, reverseBitField}
 use Rattle.limbwords.specs.Value.{value}
 use Rattle.outcomes.specs.Outcome.{Outcome, done, guard}
-use Rattle.limbstages.specs.Stages.{operand, natural, field, newBit, sized}
+use Rattle.limbstages.specs.Stages.{untrimmed, operand, natural, field, newBit, sized}
 
 -- bitwise-not
 unfoldable pub notOutcome : List ℕ → Outcome ℤ
@@ -69,6 +69,10 @@ firstBitSetOutcome x = operand x (done (firstBitSet (value x)))
 
 unfoldable pub bitSetOutcome : List ℕ → ℤ → Outcome ℤ
 bitSetOutcome x k = operand x (natural k (done (cond (testbit (value x) (natAbs k)) (pos 1) (pos 0))))
+
+-- the limbs themselves, which may be padded
+unfoldable pub trimOutcome : List ℕ → Outcome ℤ
+trimOutcome x = untrimmed x (done (value x))
 
 -- the integer as one signed 64-bit word
 unfoldable pub wordOutcome : List ℕ → Outcome ℤ

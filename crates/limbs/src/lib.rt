@@ -1,16 +1,19 @@
 // The R6RS bitwise operations on integers of up to 1,024 limbs of 32 bits, least significant first, in two's complement.
 //
-// A call that writes an integer takes its operands, its numbers, the output buffer and the first limb to write. It writes the
-// shortest limbs of the result from there on, and changes no other limb. Refusals, in this order: 7 for an operand of no limb or of
-// more than 1,024, 5 for a number outside its domain, 6 for a result of more than 1,024 limbs, 8 for a buffer that is too short.
-// A refused call changes nothing.
+// An operand has the shortest limbs of its integer; `bitwise_trim` makes them of limbs that are padded. A call that writes an integer
+// takes its operands, its numbers, the output buffer and the first limb to write. It writes the shortest limbs of the result from there
+// on, and changes no other limb. Refusals, in this order: 7 for an operand of no limb, of more than 1,024, or of more than it needs, 5 for
+// a number outside its domain, 6 for a result of more than 1,024 limbs, 8 for a buffer that is too short. A refused call changes nothing.
 ghost use mathlib.Core.Path.{_≡_};
-ghost use mathlib.Core.Bool.{_&&_, _||_, xor};
+ghost use mathlib.Core.Bool.{true, _&&_, _||_, xor};
 ghost use Rattle.outcomes.specs.Outcome as outcome;
 ghost use Rattle.limbstages.specs.Buffer.{Writes};
 ghost use Rattle.outcomes.specs.Number.{number};
+ghost use Rattle.bits.specs.Logical.{bitwise};
+ghost use Rattle.limbwords.specs.Value.{value};
 ghost use Rattle.limbwords.specs.Results.{logicOf};
-ghost use Rattle.limbs.specs.Operations.{notOutcome, bitwiseOutcome, ifOutcome, copyBitOutcome, bitFieldOutcome, copyBitFieldOutcome, shiftOutcome, shiftLeftOutcome, shiftRightOutcome, rotateOutcome, reverseOutcome, bitCountOutcome, lengthOutcome, firstBitSetOutcome, bitSetOutcome, wordOutcome};
+ghost use Rattle.limbstages.specs.Stages.{isOperand};
+ghost use Rattle.limbs.specs.Operations.{notOutcome, bitwiseOutcome, ifOutcome, copyBitOutcome, bitFieldOutcome, copyBitFieldOutcome, shiftOutcome, shiftLeftOutcome, shiftRightOutcome, rotateOutcome, reverseOutcome, bitCountOutcome, lengthOutcome, firstBitSetOutcome, bitSetOutcome, wordOutcome, trimOutcome};
 use limbcount::count::bit_count;
 use limbcount::count::bit_length;
 use limbcount::count::first_bit_set;
@@ -27,9 +30,11 @@ use limbstages::check::check_field;
 use limbstages::check::check_natural;
 use limbstages::check::check_new_bit;
 use limbstages::check::check_rotation;
+use limbstages::check::has_limbs;
 use limbstages::check::is_operand;
 use limbstages::field::run_field;
 use limbstages::run::run;
+use limbstages::run::store;
 use limbstages::run::store_limbs;
 use limbstages::shift::shift_left;
 use limbstages::shift::shift_right;
@@ -44,28 +49,32 @@ use outcomes::number::refuse_number;
 use words::rotation::reduced;
 use words::sign::absolute;
 
-// and, ior and xor of two operands, and not of the first.
+// and, ior and xor of two legal operands.
 fn combine(by: Logic, x: &[u32], y: &[u32], out: &mut [u32], first: u64) -> Written
-    ensures { λ r. ⌜ Writes (bitwiseOutcome (logicOf by) (now (x .entry)) (now (y .entry))) (now (out .entry)) first r (now (out .exit)) ⌝ }
+    requires { ⌜ (isOperand (now x) && isOperand (now y)) ≡ true ⌝ }
+    ensures { λ r. ⌜ Writes (outcome.done (bitwise (logicOf by) (value (now (x .entry))) (value (now (y .entry))))) (now (out .entry)) first r (now (out .exit)) ⌝ }
 {
-    if !are_operands(x, y) {
-        return refuse(7);
-    }
     let enough = max(x.len(), y.len());
     run(Operation::Logical(by), x, y, x, enough, out, first)
 }
 
-// bitwise-not
+// bitwise-not: the complement has as many limbs as its operand
 pub fn bitwise_not(x: &[u32], out: &mut [u32], first: u64) -> Written
     ensures { λ r. ⌜ Writes (notOutcome (now (x .entry))) (now (out .entry)) first r (now (out .exit)) ⌝ }
 {
-    combine(Logic::Not, x, x, out, first)
+    if !is_operand(x) {
+        return refuse(7);
+    }
+    store(Operation::Logical(Logic::Not), x, x, x, x.len(), out, first)
 }
 
 // bitwise-and of two
 pub fn bitwise_and(x: &[u32], y: &[u32], out: &mut [u32], first: u64) -> Written
     ensures { λ r. ⌜ Writes (bitwiseOutcome _&&_ (now (x .entry)) (now (y .entry))) (now (out .entry)) first r (now (out .exit)) ⌝ }
 {
+    if !are_operands(x, y) {
+        return refuse(7);
+    }
     combine(Logic::And, x, y, out, first)
 }
 
@@ -73,6 +82,9 @@ pub fn bitwise_and(x: &[u32], y: &[u32], out: &mut [u32], first: u64) -> Written
 pub fn bitwise_ior(x: &[u32], y: &[u32], out: &mut [u32], first: u64) -> Written
     ensures { λ r. ⌜ Writes (bitwiseOutcome _||_ (now (x .entry)) (now (y .entry))) (now (out .entry)) first r (now (out .exit)) ⌝ }
 {
+    if !are_operands(x, y) {
+        return refuse(7);
+    }
     combine(Logic::Ior, x, y, out, first)
 }
 
@@ -80,6 +92,9 @@ pub fn bitwise_ior(x: &[u32], y: &[u32], out: &mut [u32], first: u64) -> Written
 pub fn bitwise_xor(x: &[u32], y: &[u32], out: &mut [u32], first: u64) -> Written
     ensures { λ r. ⌜ Writes (bitwiseOutcome xor (now (x .entry)) (now (y .entry))) (now (out .entry)) first r (now (out .exit)) ⌝ }
 {
+    if !are_operands(x, y) {
+        return refuse(7);
+    }
     combine(Logic::Xor, x, y, out, first)
 }
 
@@ -255,6 +270,16 @@ pub fn bitwise_bit_set(x: &[u32], position: i64) -> Number
         Natural::Legal(at) => done((window(x, at) % 2) as i64),
         Natural::Refused(k) => refuse_number(k),
     }
+}
+
+// The shortest form of limbs that may be padded, written where any other result would be.
+pub fn bitwise_trim(x: &[u32], out: &mut [u32], first: u64) -> Written
+    ensures { λ r. ⌜ Writes (trimOutcome (now (x .entry))) (now (out .entry)) first r (now (out .exit)) ⌝ }
+{
+    if !has_limbs(x) {
+        return refuse(7);
+    }
+    store_limbs(x, shortest_length(x), out, first)
 }
 
 // An integer as one signed 64-bit word; refusal 6 where it does not fit.

@@ -1,26 +1,52 @@
 -- The stages of a limb call: an operand that is legal or not, and what legal numbers are. Assumes nothing.
 use Prim.Native.Nat.{ℕ, zero-le, _≤_, _<_}
+use native.Mathlib.Omega.{arith}
 use mathlib.Core.Path.{_≡_, refl, sym, _∙_}
 use mathlib.Core.Bool.{Bool, true, false, not, _&&_, true≢false}
-use mathlib.Core.List.{List}
-use lib.Dec.{leb}
+use mathlib.Core.List.{List, [], _∷_}
+use lib.Dec.{leb, lit<}
 use lib.IntN.{ℤ, pos, negsuc, natAbs}
 use lib.ListN.{length}
 use lib.Signed.{leZ}
-use borrow.Author.Tests.{le-leb, leb-true, not-true, not-false}
+use borrow.Author.Tests.{le-leb, leb-true, eqb-true, eq-eqb, not-true, not-false}
 use Rattle.bits.specs.Range.{within}
 use Rattle.bits.proofs.Booleans.{both-left, both-right}
 use Rattle.outcomes.specs.Outcome.{Outcome, done, refuse, guard, guardAt}
 use Rattle.outcomes.proofs.OutcomeLaws.{passed, failed, guard-twice, stage-passed}
-use Rattle.limbstages.specs.Stages.{mostLimbs, isOperand, operand, isField, isNewBit}
+use Rattle.limbwords.specs.Value.{value, limbCount, isShortest}
+use Rattle.limbwords.proofs.ValueLaws.{value-length, limbCount-positive, limbCount-le}
+use Rattle.limbstages.specs.Stages.{mostLimbs, hasLimbs, isOperand, operand, isField, isNewBit}
 
 -- ---- operands
 
+pub limbs-lengths : (xs : List ℕ) → hasLimbs xs ≡ true → (0 < length xs) × (length xs ≤ 1024)
+unfolding hasLimbs mostLimbs
+limbs-lengths xs h =
+    (leb-true 1 (length xs) (both-left (leb 1 (length xs)) (leb (length xs) 1024) h), leb-true (length xs) 1024 (both-right (leb 1 (length xs)) (leb (length xs) 1024) h))
+
+-- a legal operand: its length, and that it is the shortest
+pub operand-limbs : (xs : List ℕ) → isOperand xs ≡ true → hasLimbs xs ≡ true
+unfolding isOperand
+operand-limbs xs h = both-left (hasLimbs xs) (isShortest xs) h
+
+pub operand-shortest : (xs : List ℕ) → isOperand xs ≡ true → isShortest xs ≡ true
+unfolding isOperand
+operand-shortest xs h = both-right (hasLimbs xs) (isShortest xs) h
+
+pub operand-count : (xs : List ℕ) → isOperand xs ≡ true → length xs ≡ limbCount (value xs)
+unfolding isShortest
+operand-count xs h = eqb-true (length xs) (limbCount (value xs)) (operand-shortest xs h)
+
+-- one limb is always legal
+pub limb-operand : (n : ℕ) → isOperand (n ∷ []) ≡ true
+unfolding isOperand hasLimbs mostLimbs isShortest
+limb-operand n =
+    let z = value (n ∷ []) in
+    eq-eqb 1 (limbCount z) (omega (arith, limbCount-positive z, limbCount-le z 1 (value-length (n ∷ []) (lit< tt))))
+
 -- what the code needs of a legal operand
 pub operand-lengths : (xs : List ℕ) → isOperand xs ≡ true → (0 < length xs) × (length xs ≤ 1024)
-unfolding isOperand mostLimbs
-operand-lengths xs h =
-    (leb-true 1 (length xs) (both-left (leb 1 (length xs)) (leb (length xs) 1024) h), leb-true (length xs) 1024 (both-right (leb 1 (length xs)) (leb (length xs) 1024) h))
+operand-lengths xs h = limbs-lengths xs (operand-limbs xs h)
 
 pub operand-length : (xs : List ℕ) → isOperand xs ≡ true → 0 < length xs
 operand-length xs h = operand-lengths xs h .0

@@ -21,11 +21,11 @@ use Rattle.outcomes.specs.Puts.{Puts}
 use Rattle.outcomes.proofs.BufferLaws.{fitted-enough, fitted-short, laid-part, read-back, countOf-capacity, afterwards-length}
 use Rattle.limbwords.specs.Value.{limbsOf, limbCount, shortest}
 use Rattle.limbwords.specs.Results.{bitsFrom, limbAt}
-use Rattle.limbwords.proofs.ValueLaws.{length-shortest, limbCount-positive}
+use Rattle.limbwords.proofs.ValueLaws.{length-shortest, limbCount-positive, isShortest-shortest}
 use Rattle.limbstages.specs.declared.Written.{Written}
-use Rattle.limbstages.specs.Buffer.{stored, written, Writes}
+use Rattle.limbstages.specs.Buffer.{stored, written, Writes, copied}
 use Rattle.limbstages.specs.Inner.{refusal}
-use Rattle.limbstages.specs.Stages.{mostLimbs, isOperand}
+use Rattle.limbstages.specs.Stages.{mostLimbs, hasLimbs, isOperand}
 
 pub writes-as : {o p : Outcome ℤ} {out out′ : List ℕ} {first : ℕ} {r : Written} → o ≡ p → Writes p out first r out′ → Writes o out first r out′
 writes-as {out} {out′} {first} {r} e w = subst (λ (q : Outcome ℤ). Writes q out first r out′) (sym e) w
@@ -83,10 +83,10 @@ module _ (z : ℤ) (out : List ℕ) (first : ℕ) {n : ℕ} (counted : n ≡ lim
 -- ---- what was written
 
 pub written-limbs : {z : ℤ} {out : List ℕ} {first : ℕ} {r : Written} {out′ : List ℕ} → Writes (done z) out first r out′ → r .refusal ≡ 0
-    → take (r .length) (drop first out′) ≡ shortest z
-unfolding written stored mapDone
+    → copied r first out′ ≡ shortest z
+unfolding written stored mapDone copied
 written-limbs {z} {out} {first} {r} {out′} w h =
-    ap₂ (λ (a : Written) (l : List ℕ). take (a .length) (drop first l)) (w .answer) (w .buffer)
+    ap₂ (λ (a : Written) (l : List ℕ). copied a first l) (w .answer) (w .buffer)
     ∙ read-back (shortest z) out first (omega (arith, length-shortest z, limbCount-positive z)) (sym (ap (λ (a : Written). a .refusal) (w .answer)) ∙ h)
 
 -- it lies within the buffer, from the first limb on
@@ -101,8 +101,8 @@ written-within {o} {out} {out′} {first} w =
 
 -- the shortest limbs of an integer that fits 1,024 limbs are legal operands
 pub shortest-operand : (z : ℤ) → fits 32768 z ≡ true → isOperand (shortest z) ≡ true
-unfolding isOperand mostLimbs limbCount
+unfolding hasLimbs isOperand mostLimbs limbCount
 shortest-operand z f =
     let l = length-shortest z in
     let b = fits-length 32768 z (lit< tt) .0 (holds f) in
-    rw (le-leb 1 (length (shortest z)) (omega arith), le-leb (length (shortest z)) 1024 (omega arith)) refl
+    rw (le-leb 1 (length (shortest z)) (omega arith), le-leb (length (shortest z)) 1024 (omega arith)) (isShortest-shortest z)

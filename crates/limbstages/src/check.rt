@@ -4,7 +4,8 @@ ghost use mathlib.Core.Bool.{_&&_};
 ghost use lib.IntN.{natAbs};
 ghost use Rattle.outcomes.specs.Outcome as outcome;
 ghost use Rattle.limbstages.specs.Inner.{naturalOf, fieldOf, rotationOf, newBitOf};
-ghost use Rattle.limbstages.specs.Stages.{isOperand, operand, natural, isField, field, isNewBit, newBit};
+ghost use Rattle.limbstages.specs.Stages.{hasLimbs, isOperand, operand, natural, isField, field, isNewBit, newBit};
+use limbmeasure::is_shortest;
 use words::range::within;
 
 pub const MOST_LIMBS: usize = 1024;
@@ -37,10 +38,18 @@ pub enum NewBit {
     Refused(u64),
 }
 
+// Limbs that trim takes.
+pub fn has_limbs(x: &[u32]) -> bool
+    ensures { λ r. ⌜ r ≡ hasLimbs (now (x .entry)) ⌝ }
+{
+    1 <= x.len() && x.len() <= MOST_LIMBS
+}
+
+// Limbs that every other call takes: the shortest ones, which the last two tell.
 pub fn is_operand(x: &[u32]) -> bool
     ensures { λ r. ⌜ r ≡ isOperand (now (x .entry)) ⌝ }
 {
-    1 <= x.len() && x.len() <= MOST_LIMBS
+    has_limbs(x) && is_shortest(x)
 }
 
 pub fn are_operands(x: &[u32], y: &[u32]) -> bool

@@ -10,17 +10,17 @@ use lib.Dec.{ltb, lit<}
 use lib.IntN.{ℤ, pos}
 use lib.ListN.{length, getD}
 use lib.Pow.{pow-mono}
-use borrow.Author.Tests.{ltb-true, ltb-false}
+use borrow.Author.Tests.{ltb-true, ltb-false, eqb-true, eq-eqb}
 use Rattle.bits.specs.Testbit.{isNegative, testbit, bitLength, fill, ofBits}
 use Rattle.bits.specs.Shift.{shiftRight}
 use Rattle.bits.specs.Division.{modℕ}
 use Rattle.bits.proofs.TestbitLaws.{testbit-ext, testbit-above, testbit-shiftRight, testbit-ofBits-lt, testbit-ofBits-ge, isNegative-ofBits, testbit-fill, isNegative-fill, isNegative-shiftRight, testbit-small}
 use Rattle.bits.proofs.LengthLaws.{bitLength-least-bits}
 use Rattle.bits.proofs.ShiftLaws.{shiftRight-above}
-use Rattle.bits.proofs.ModLaws.{modℕ-small}
+use Rattle.bits.proofs.ModLaws.{modℕ-lt, modℕ-small}
 use Rattle.bits.proofs.ValueLaws.{testbit-modℕ-pow, ofBits-modℕ}
 use Rattle.words.proofs.FieldWords.{testbit-modℕ-lt}
-use Rattle.limbwords.specs.Value.{onTop, value, limbsOf, limbCount, shortest}
+use Rattle.limbwords.specs.Value.{onTop, value, limbsOf, limbCount, shortest, isShortest}
 
 -- ---- one limb below an integer
 
@@ -173,3 +173,24 @@ shortest-unique xs z h b e l =
     let n : length xs ≡ limbCount z =
     omega (arith, length-shortest z, subst (λ (y : ℤ). length (shortest y) ≤ length xs) e (shortest-least xs h)) in
     sym (limbsOf-value xs b) ∙ cc (n, e)
+
+-- each of its limbs has 32 bits
+pub limbsOf-lt : (k : ℕ) (z : ℤ) (i : ℕ) → getD (limbsOf k z) i 0 < 2 ^ 32
+unfolding limbsOf
+limbsOf-lt zero z i = lit< tt
+limbsOf-lt (suc k) z zero = modℕ-lt z (2 ^ 32) (lit< tt)
+limbsOf-lt (suc k) z (suc i) = limbsOf-lt k (shiftRight z 32) i
+
+-- ---- limbs that are the shortest of their integer
+
+pub isShortest-shortest : (z : ℤ) → isShortest (shortest z) ≡ true
+unfolding isShortest
+isShortest-shortest z =
+    eq-eqb (length (shortest z)) (limbCount (value (shortest z))) (length-shortest z ∙ ap limbCount (sym (value-shortest z)))
+
+-- limbs of 32 bits that are so have one spelling
+pub isShortest-unique : (xs : List ℕ) → ((i : ℕ) → getD xs i 0 < 2 ^ 32) → isShortest xs ≡ true → xs ≡ shortest (value xs)
+unfolding isShortest shortest
+isShortest-unique xs b h =
+    sym (limbsOf-value xs b)
+    ∙ ap (λ (n : ℕ). limbsOf n (value xs)) (eqb-true (length xs) (limbCount (value xs)) h)

@@ -4,9 +4,13 @@
 --   limbsOf k z          ==  the k lowest limbs of z
 --   limbCount z          ==  how many limbs z needs: room for its length and one bit for its sign
 --   shortest z           ==  the shortest limbs of z
+--   isShortest xs        ==  whether xs has no more limbs than its integer needs
 use Prim.Native.Nat.{ℕ, zero, suc, _+_, _/_, _^_}
+use mathlib.Core.Bool.{Bool}
 use mathlib.Core.List.{List, [], _∷_}
+use lib.Dec.{eqb}
 use lib.IntN.{ℤ, pos}
+use lib.ListN.{length}
 use Rattle.bits.specs.Testbit.{testbit, bitLength, fill, ofBits}
 use Rattle.bits.specs.Shift.{shiftRight}
 use Rattle.bits.specs.Division.{modℕ}
@@ -28,3 +32,6 @@ limbCount z = bitLength z / 32 + 1
 
 unfoldable pub shortest : ℤ → List ℕ
 shortest z = limbsOf (limbCount z) z
+
+unfoldable pub isShortest : List ℕ → Bool
+isShortest xs = eqb (length xs) (limbCount (value xs))

@@ -17,6 +17,7 @@ pub enum Expected {
     BitwiseOperation,
     Integer,
     IntegerOfFewDigits,
+    Limb,
     ListCall,
     Length,
     RuleCommand,
@@ -29,7 +30,7 @@ pub enum Expected {
 fn put_expected(expected: Expected, out: &mut [u8], at: usize) -> usize {
     match expected {
         Expected::Command => put(
-            b"fx, widths, bitwise, list, fold, join, rule, batch, ops or help",
+            b"fx, widths, bitwise, trim, list, fold, join, rule, batch, ops or help",
             out,
             at,
         ),
@@ -60,6 +61,7 @@ fn put_expected(expected: Expected, out: &mut [u8], at: usize) -> usize {
             out,
             at,
         ),
+        Expected::Limb => put(b"a limb from 0 to 0xffffffff", out, at),
         Expected::ListCall => put(b"rev, or rot: and a count, such as rot:3,", out, at),
         Expected::Length => put(b"a length from 0 to 2^63 - 1", out, at),
         Expected::RuleCommand => put(b"read, run or widths", out, at),

@@ -108,6 +108,7 @@ pub fn put_usage(out: &mut [u8]) -> usize {
   ql fx WIDTH OP ARG..                    a fixnum operation at a width
   ql widths OP ARG..                      the same at every width, and which widths agree
   ql bitwise OP ARG..                     a bitwise operation on integers of up to 1024 limbs of 32 bits
+  ql trim LIMB..                          limbs of 32 bits, the least significant first, without padding, and their integer
   ql list WIDTH START END NUMBER CALL..   calls rot:COUNT and rev on one field, and the one rotation they equal
   ql fold WIDTH START END COUNT [ACCUMULATOR] [FILE..]
                                           an identifier of the bytes of standard input, or of each file
@@ -183,6 +184,20 @@ fn put_bitwise_help(out: &mut [u8]) -> usize {
         b"ql bitwise OP ARG..
 One bitwise operation of R6RS on integers of up to 1024 limbs of 32 bits, in two's complement. Long integers are written and printed
 in hexadecimal. A call outside its domain is refused, with a number from 3 to 8 and the reason.
+",
+        out,
+        0,
+    )
+}
+
+fn put_trim_help(out: &mut [u8]) -> usize {
+    put(
+        b"ql trim LIMB..
+The shortest limbs of the integer that limbs are, and the integer. A limb is 32 bits, written as a number from 0 to 0xffffffff. The
+least significant stands first, and the highest bit of the last one is the sign, in two's complement. A last limb is padding where the
+limbs before it are the same integer; the shortest limbs have none. They are the one spelling of an integer that the library's other calls
+take as an operand. The lines have the limbs that were given, the shortest, and the integer. There must be 1 to 1024 limbs; any other
+number of them is refused, with the number 7.
 ",
         out,
         0,
@@ -278,12 +293,13 @@ pub fn put_command_help(command: u64, out: &mut [u8]) -> usize {
         1 => put_fx_help(out),
         2 => put_widths_help(out),
         3 => put_bitwise_help(out),
-        4 => put_list_help(out),
-        5 => put_fold_help(out),
-        6 => put_join_help(out),
-        7 => put_rule_help(out),
-        8 => put_ops_help(out),
-        9 => put_usage(out),
+        4 => put_trim_help(out),
+        5 => put_list_help(out),
+        6 => put_fold_help(out),
+        7 => put_join_help(out),
+        8 => put_rule_help(out),
+        9 => put_ops_help(out),
+        10 => put_usage(out),
         _ => put_batch_help(out),
     }
 }

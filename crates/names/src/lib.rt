@@ -6,10 +6,11 @@ use check::same;
 use output::put;
 
 // The commands.
-fn command_lines() -> [u8; 52] {
+fn command_lines() -> [u8; 57] {
     *b"fx
 widths
 bitwise
+trim
 list
 fold
 join

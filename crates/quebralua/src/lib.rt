@@ -7,7 +7,7 @@ ghost use Rattle.convert.specs.Convert.{toFixnumOutcome, toLimbsOutcome};
 ghost use Rattle.fxtable.specs.Calls.{fixnumAnswer};
 ghost use Rattle.limbstages.specs.Buffer.{Writes};
 ghost use Rattle.outcomes.specs.Number.{number};
-ghost use Rattle.limbs.specs.Operations.{notOutcome, bitwiseOutcome, ifOutcome, copyBitOutcome, bitFieldOutcome, copyBitFieldOutcome, shiftOutcome, shiftLeftOutcome, shiftRightOutcome, rotateOutcome, reverseOutcome, bitCountOutcome, lengthOutcome, firstBitSetOutcome, bitSetOutcome};
+ghost use Rattle.limbs.specs.Operations.{notOutcome, bitwiseOutcome, ifOutcome, copyBitOutcome, bitFieldOutcome, copyBitFieldOutcome, shiftOutcome, shiftLeftOutcome, shiftRightOutcome, rotateOutcome, reverseOutcome, bitCountOutcome, lengthOutcome, firstBitSetOutcome, bitSetOutcome, trimOutcome};
 
 pub mod folds;
 pub mod stored_rules;
@@ -182,6 +182,14 @@ pub extern "C" fn ql_bitwise_reverse(
     ensures { λ r. ⌜ Writes (reverseOutcome (now (x .entry)) start end) (now (out .entry)) first r (now (out .exit)) ⌝ }
 {
     limbs::bitwise_reverse(x, start, end, out, first)
+}
+
+// The shortest form of limbs that may be padded
+#[no_mangle]
+pub extern "C" fn ql_bitwise_trim(x: &[u32], out: &mut [u32], first: u64) -> Written
+    ensures { λ r. ⌜ Writes (trimOutcome (now (x .entry))) (now (out .entry)) first r (now (out .exit)) ⌝ }
+{
+    limbs::bitwise_trim(x, out, first)
 }
 
 // bitwise-bit-count

@@ -1,6 +1,7 @@
 //! Reads words as numbers, by the rules of docs/API.md.
 
 use super::text::negated;
+use crate::spellings::shortest;
 
 /// The most hexadecimal digits of an operand.
 pub const MOST_DIGITS: usize = 8192;
@@ -92,14 +93,8 @@ fn hexadecimal(digits: &str) -> Vec<u32> {
 /// The shortest form of the integer with that sign and absolute value.
 fn limbs(negative: bool, mut magnitude: Vec<u32>) -> Vec<u32> {
     magnitude.push(0);
-    let mut limbs = if negative { negated(&magnitude) } else { magnitude };
-    while let [.., below, last] = limbs[..] {
-        if last != ((below as i32) >> 31) as u32 {
-            break;
-        }
-        limbs.pop();
-    }
-    limbs
+    let limbs = if negative { negated(&magnitude) } else { magnitude };
+    shortest(&limbs).to_vec()
 }
 
 #[cfg(test)]

@@ -1,6 +1,8 @@
-//! The conversions at each width: numbers around its limits, shortest and padded, and both ways.
+//! The conversions at each width: numbers around its limits, shortest and padded, and both ways. Padded limbs are refused
+//! after a bad width, and before a number that is no fixnum.
 
 use super::limb_operands::{long, refused, short};
+use super::limb_spellings;
 use crate::checker::Checker;
 use crate::outputs::Shape;
 use crate::report::{difference, shown};
@@ -8,11 +10,16 @@ use quebralua_reference::call::LimbCall;
 use quebralua_reference::fixnum_arguments::{greatest, least, nearest_accepted, numbers, refused_widths};
 use quebralua_reference::reference::integer::Integer;
 use quebralua_reference::reference::width::WIDTHS;
+use quebralua_reference::spellings::padded;
 
 pub fn run(checker: &mut Checker) {
     let mut operands = short(&mut checker.random);
     operands.extend(long(&mut checker.random).into_iter().step_by(2));
     operands.extend(refused());
+    for x in limb_spellings::short() {
+        operands.extend(limb_spellings::paddings(&x));
+        operands.push(x);
+    }
     for width in WIDTHS.chain(refused_widths()) {
         for x in &operands {
             checker.edge(&LimbCall::limbs_to_fixnum(width, x));
@@ -36,13 +43,10 @@ fn limits(checker: &mut Checker, width: u64) {
         EXPONENTS.into_iter().chain([width - 1, width]).flat_map(|exponent| [1i128 << exponent, -1 << exponent]);
     for n in powers.chain([0]) {
         for near in n - 2..=n + 2 {
-            let mut limbs = Integer::from_i128(near).to_limbs();
+            let limbs = Integer::from_i128(near).to_limbs();
             checker.edge(&LimbCall::limbs_to_fixnum(width, &limbs));
-            for length in [2, 3, 4, 1024, 1025] {
-                if length > limbs.len() {
-                    limbs.resize(length, if near < 0 { u32::MAX } else { 0 });
-                    checker.edge(&LimbCall::limbs_to_fixnum(width, &limbs));
-                }
+            for length in [2, 3, 4, 1024, 1025].into_iter().filter(|&length| length > limbs.len()) {
+                checker.edge(&LimbCall::limbs_to_fixnum(width, &padded(&limbs, length)));
             }
         }
     }

@@ -1,6 +1,6 @@
 //! The limb calls with fields: starts, ends and counts around every limit.
 
-use super::limb_operands::{long, refused, short, some_long};
+use super::limb_operands::{long, refused, short, some_long, some_short};
 use super::limb_positions::{counts, few_counts, few_positions, positions};
 use crate::checker::Checker;
 use quebralua_reference::call::LimbCall;
@@ -60,7 +60,7 @@ fn every_field_of_two_limbs(checker: &mut Checker) {
 
 /// Some targets with some sources, refused ones among both.
 fn copy_fields(checker: &mut Checker) {
-    let mut operands: Vec<Vec<u32>> = short(&mut checker.random).into_iter().step_by(4).collect();
+    let mut operands = some_short(&mut checker.random, 3);
     operands.extend(some_long(&mut checker.random, 12));
     operands.extend(refused().into_iter().take(2));
     for x in &operands {

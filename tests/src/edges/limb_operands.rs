@@ -1,7 +1,9 @@
-//! Operands at the limits: values around powers of two at limb boundaries, padded and not, of every telling length.
+//! Operands at the limits: values around powers of two at limb boundaries, of every telling length. Some are padded, and
+//! every call but trim refuses these.
 
 use quebralua_reference::random::Random;
 use quebralua_reference::random_arguments::limbs::LIMBS;
+use quebralua_reference::spellings::is_padded;
 
 /// Every operand of one limb.
 pub fn one_limb() -> Vec<Vec<u32>> {
@@ -59,6 +61,12 @@ pub fn long(random: &mut Random) -> Vec<Vec<u32>> {
 /// The operands that are refused: no limb, 1,025 and more.
 pub fn refused() -> Vec<Vec<u32>> {
     vec![vec![], vec![0; 1025], vec![0xFFFF_FFFF; 1025], vec![5; 1025], vec![0; 1026], vec![0; 2048]]
+}
+
+/// One legal operand in `step` of the short ones, and two that are padded.
+pub fn some_short(random: &mut Random, step: usize) -> Vec<Vec<u32>> {
+    let legal = short(random).into_iter().filter(|limbs| !is_padded(limbs)).step_by(step);
+    legal.chain([vec![0; 2], vec![u32::MAX; 2]]).collect()
 }
 
 /// One operand in `step` of the long ones, beginning at a random one.

@@ -1,6 +1,6 @@
 //! The limb calls without fields: bit by bit, values, one bit, shifts.
 
-use super::limb_operands::{long, one_limb, refused, short, some_long};
+use super::limb_operands::{long, one_limb, refused, short, some_long, some_short};
 use super::limb_positions::{distances, positions, NEW_BITS};
 use crate::checker::Checker;
 use quebralua_reference::call::LimbCall;
@@ -29,15 +29,18 @@ fn one_operand(checker: &mut Checker, x: &[u32]) {
     }
 }
 
-/// Zeros or ones, and one limb that differs, at each index next to an end of the operand: it is counted once.
+/// Zeros or ones, and one limb that differs, at each index next to an end of the operand: it is counted once. The first
+/// of the three is padded unless that limb is among the last; the others have both signs.
 fn counts(checker: &mut Checker, length: usize) {
     for fill in [0, u32::MAX] {
         for i in (0..length).filter(|&i| i < 20 || length - i <= 20) {
             let mut x = vec![fill; length];
             x[i] ^= 0x4000_0801;
             checker.edge(&LimbCall::new(BitCount, &[&x], &[]));
-            x[length - 1] ^= 0x8000_0000;
-            checker.edge(&LimbCall::new(BitCount, &[&x], &[]));
+            for top in [0x8000_0000, 0xA000_0000] {
+                x[length - 1] ^= top;
+                checker.edge(&LimbCall::new(BitCount, &[&x], &[]));
+            }
         }
     }
 }
@@ -86,7 +89,7 @@ fn pairs(checker: &mut Checker) {
 
 /// Every triple of some operands of every length.
 fn triples(checker: &mut Checker) {
-    let mut operands: Vec<Vec<u32>> = short(&mut checker.random).into_iter().step_by(3).collect();
+    let mut operands = some_short(&mut checker.random, 2);
     operands.extend(some_long(&mut checker.random, 8));
     operands.extend(refused().into_iter().take(2));
     for x in &operands {

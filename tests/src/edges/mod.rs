@@ -14,7 +14,10 @@ mod fold_openings;
 mod fold_settings;
 mod limb_fields;
 mod limb_operands;
+mod limb_padded;
 mod limb_positions;
+mod limb_spellings;
+mod limb_trim;
 mod limbs;
 mod pointers;
 mod rule_binding;
@@ -28,6 +31,7 @@ mod rule_parts;
 mod rule_pointers;
 mod rule_strings;
 mod rule_widths;
+mod trim_binding;
 
 use crate::checker::Checker;
 
@@ -41,6 +45,9 @@ pub fn fixnum(checker: &mut Checker) {
 pub fn limbs(checker: &mut Checker) {
     limbs::run(checker);
     limb_fields::run(checker);
+    limb_padded::run(checker);
+    trim_binding::run();
+    limb_trim::run(checker);
     pointers::run(checker);
 }
 

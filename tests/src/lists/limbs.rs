@@ -3,10 +3,11 @@
 use super::part::{Bitwise, Part};
 use crate::checker::Checker;
 use crate::outputs::WITH_ROOM;
+use crate::report::{difference, shown};
 use quebralua_reference::call::LimbCall;
 use quebralua_reference::operation::Operation;
 use quebralua_reference::random::Random;
-use quebralua_reference::random_arguments::limbs::{accepted_operand, count};
+use quebralua_reference::random_arguments::limbs::{accepted_operand, count, padding};
 use quebralua_reference::reference::integer::Integer;
 use quebralua_reference::reference::limbs::GREATEST_END;
 use quebralua_reference::reference::lists::Step;
@@ -33,6 +34,18 @@ impl Limbs {
             Step::Rotate(count) => LimbCall::new(Operation::Rotate, &[x], &[self.start, self.end, count]),
             Step::Reverse => LimbCall::new(Operation::Reverse, &[x], &[self.start, self.end]),
         }
+    }
+
+    /// Each call of a list from a padded operand is refused, so that it ends where it begins. How many there were.
+    pub fn check_padded(&self, checker: &mut Checker, steps: &[Step]) -> u64 {
+        let x = accepted_operand(&mut checker.random);
+        let x = padding(&mut checker.random, &x);
+        for &step in steps {
+            if let Some(answer) = self.step(checker, &x, step) {
+                difference(&self.step_text(&x, step), "refused", &shown(&answer));
+            }
+        }
+        steps.len() as u64
     }
 
     /// The result of a call on a buffer with room.

@@ -3,6 +3,7 @@
 use crate::operation::Operation::{self, *};
 use crate::random::Random;
 use crate::reference::limbs::MOST_LIMBS;
+use crate::spellings::{padded, shortest};
 
 /// Limbs with bits at their ends.
 pub const LIMBS: [u32; 12] = [
@@ -20,8 +21,59 @@ pub const LIMBS: [u32; 12] = [
     0xFFFF_0000,
 ];
 
-/// An operand, refused ones among them; most have a few limbs.
+/// An operand of that operation, refused ones among them; most have a few limbs. For trim about half are padded.
+pub fn operand_of(random: &mut Random, operation: Operation) -> Vec<u32> {
+    match operation {
+        Trim => any_spelling(random),
+        _ => operand(random),
+    }
+}
+
+/// An operand, refused ones among them; most have a few limbs, and one in twelve is padded.
 pub fn operand(random: &mut Random) -> Vec<u32> {
+    let limbs = shortest(&drawn(random)).to_vec();
+    if random.one_in(12) {
+        padding(random, &limbs)
+    } else {
+        limbs
+    }
+}
+
+/// An operand that every call accepts: 1 to 1,024 limbs, and the shortest form.
+pub fn accepted_operand(random: &mut Random) -> Vec<u32> {
+    loop {
+        let limbs = shortest(&drawn(random)).to_vec();
+        if (1..=MOST_LIMBS).contains(&limbs.len()) {
+            return limbs;
+        }
+    }
+}
+
+/// Limbs of any number, about half of them padded.
+pub fn any_spelling(random: &mut Random) -> Vec<u32> {
+    let limbs = drawn(random);
+    if random.below(5) < 2 {
+        padding(random, &limbs)
+    } else {
+        limbs
+    }
+}
+
+/// The same integer in more limbs; at times in 1,024 or about as many. No limb stays none.
+pub fn padding(random: &mut Random, limbs: &[u32]) -> Vec<u32> {
+    let least = limbs.len() + 1;
+    let length = match random.below(40) {
+        _ if limbs.is_empty() => 0,
+        0 => MOST_LIMBS.max(least),
+        1 => (MOST_LIMBS + 1).max(least),
+        2 => least + random.below(MOST_LIMBS as u64) as usize,
+        _ => least + random.below(3) as usize,
+    };
+    padded(limbs, length)
+}
+
+/// Limbs of any number; some have more than their integer needs.
+fn drawn(random: &mut Random) -> Vec<u32> {
     let length = match random.below(1000) {
         0..=4 => 0,
         5..=9 => 1025 + random.below(4),
@@ -33,20 +85,10 @@ pub fn operand(random: &mut Random) -> Vec<u32> {
     filled(random, length as usize)
 }
 
-/// An operand that is accepted.
-pub fn accepted_operand(random: &mut Random) -> Vec<u32> {
-    loop {
-        let limbs = operand(random);
-        if (1..=MOST_LIMBS).contains(&limbs.len()) {
-            return limbs;
-        }
-    }
-}
-
-/// Random limbs, limbs with bits at their ends, or both; some are padded.
+/// Random limbs, limbs with bits at their ends, or both.
 fn filled(random: &mut Random, length: usize) -> Vec<u32> {
     let style = random.below(4);
-    let mut limbs: Vec<u32> = (0..length)
+    (0..length)
         .map(|_| match style {
             0 => random.next_u32(),
             1 => random.choose(&LIMBS),
@@ -54,14 +96,7 @@ fn filled(random: &mut Random, length: usize) -> Vec<u32> {
             _ if random.one_in(2) => random.next_u32() >> random.below(32),
             _ => random.choose(&LIMBS),
         })
-        .collect();
-    if length > 0 && random.one_in(5) {
-        let sign = if limbs[length - 1] >> 31 == 1 { u32::MAX } else { 0 };
-        limbs.resize(length + 1 + random.below(3) as usize, sign);
-        // A memory checker sees an access past the last limb only where the allocation ends there.
-        limbs.shrink_to_fit();
-    }
-    limbs
+        .collect()
 }
 
 /// A position, most often within an operand of that many limbs or next to it.

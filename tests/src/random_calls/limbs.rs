@@ -6,7 +6,7 @@ use quebralua_reference::fixnum_arguments::nearest_accepted;
 use quebralua_reference::operation::Operation;
 use quebralua_reference::random::Random;
 use quebralua_reference::random_arguments::fixnum::width;
-use quebralua_reference::random_arguments::limbs::{numbers, operand};
+use quebralua_reference::random_arguments::limbs::{numbers, operand, operand_of, padding};
 use quebralua_reference::reference::integer::Integer;
 
 pub fn call(checker: &mut Checker) {
@@ -15,7 +15,7 @@ pub fn call(checker: &mut Checker) {
     if operation.takes_width() {
         return conversion(checker);
     }
-    let operands = [operand(random), operand(random), operand(random)];
+    let operands = [0; 3].map(|_| operand_of(random, operation));
     let operands = [&operands[0][..], &operands[1][..], &operands[2][..]];
     let numbers = numbers(random, operation, operands[0].len());
     let taken = &operands[..operation.operands()];
@@ -32,10 +32,9 @@ pub fn conversion(checker: &mut Checker) {
         return checker.any(&LimbCall::fixnum_to_limbs(width, n as i64));
     }
     let mut limbs = Integer::from_i128(n).to_limbs();
-    if random.one_in(3) {
-        let length = limbs.len() + 1 + random.below(4) as usize;
-        limbs.resize(length, if n < 0 { u32::MAX } else { 0 });
-    } else if random.one_in(4) {
+    if random.one_in(6) {
+        limbs = padding(random, &limbs);
+    } else if random.one_in(5) {
         limbs = operand(random);
     }
     checker.any(&LimbCall::limbs_to_fixnum(width, &limbs));

@@ -3,13 +3,14 @@
 use super::integer::Integer;
 use super::limbs::integers;
 use super::width::{is_fixnum, is_width};
+use crate::operation::Operation::LimbsToFixnum;
 use crate::refusal::{NOT_FIXNUM, SIZE, WIDTH};
 
 pub fn limbs_to_fixnum(width: u64, limbs: &[u32]) -> Result<i64, u64> {
     if !is_width(width) {
         return Err(WIDTH);
     }
-    let x = &integers(&[limbs])?[0];
+    let x = &integers(LimbsToFixnum, &[limbs])?[0];
     match x.to_i128() {
         Some(n) if is_fixnum(width, n) => Ok(n as i64),
         _ => Err(SIZE),

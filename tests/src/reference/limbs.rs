@@ -14,7 +14,7 @@ const MOST_BITS: i128 = 32 * MOST_LIMBS as i128 - 1;
 
 /// The shortest form of the result of an operation that writes limbs, or the refusal 7, 5 or 6.
 pub fn result(operation: Operation, operands: &[&[u32]], numbers: &[i64]) -> Result<Vec<u32>, u64> {
-    let operands = integers(operands)?;
+    let operands = integers(operation, operands)?;
     if !in_domain(operation, numbers) {
         return Err(DOMAIN);
     }
@@ -25,7 +25,7 @@ pub fn result(operation: Operation, operands: &[&[u32]], numbers: &[i64]) -> Res
 
 /// The answer of an operation that writes nothing, or the refusal 7 or 5.
 pub fn value(operation: Operation, operands: &[&[u32]], numbers: &[i64]) -> Result<i64, u64> {
-    let operands = integers(operands)?;
+    let operands = integers(operation, operands)?;
     let x = &operands[0];
     if !in_domain(operation, numbers) {
         return Err(DOMAIN);
@@ -39,13 +39,22 @@ pub fn value(operation: Operation, operands: &[&[u32]], numbers: &[i64]) -> Resu
     })
 }
 
-/// The operands as integers, if each has 1 to 1,024 limbs.
-pub fn integers(operands: &[&[u32]]) -> Result<Vec<Integer>, u64> {
-    let accepted = |limbs: &&[u32]| (1..=MOST_LIMBS).contains(&limbs.len());
-    if !operands.iter().all(accepted) {
-        return Err(OPERAND);
-    }
-    Ok(operands.iter().map(|limbs| Integer::from_limbs(limbs)).collect())
+/// The operands as integers, if each has 1 to 1,024 limbs and, for every operation but trim, no more than its integer
+/// needs.
+pub fn integers(operation: Operation, operands: &[&[u32]]) -> Result<Vec<Integer>, u64> {
+    let integer = |limbs: &&[u32]| {
+        if !(1..=MOST_LIMBS).contains(&limbs.len()) {
+            return Err(OPERAND);
+        }
+        let x = Integer::from_limbs(limbs);
+        let is_shortest = x.limb_count() == limbs.len();
+        if is_shortest || operation == Trim {
+            Ok(x)
+        } else {
+            Err(OPERAND)
+        }
+    };
+    operands.iter().map(integer).collect()
 }
 
 fn in_domain(operation: Operation, numbers: &[i64]) -> bool {
@@ -75,6 +84,7 @@ fn exact(operation: Operation, operands: &[Integer], numbers: &[i64]) -> Result<
         ShiftRight => return shift(x, -i128::from(numbers[0])),
         Rotate => rotate(x, number(0), number(1), number(2)),
         Reverse => reverse(x, number(0), number(1)),
+        Trim => x.clone(),
         _ => unreachable!("{operation:?} writes no limbs"),
     })
 }

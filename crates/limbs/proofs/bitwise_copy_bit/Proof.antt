@@ -2,7 +2,7 @@
 use native.Mathlib.Omega.{arith}
 use Prim.Native.Nat.{ℕ}
 use native.Mathlib.Numerals.{add-one}
-use mathlib.Core.Path.{refl, sym, ap₂, _∙_}
+use mathlib.Core.Path.{sym, ap₂, _∙_}
 use lib.IntN.{ℤ}
 use Rattle.bits.specs.Field.{copyBit, copyBitField}
 use Rattle.bits.proofs.LengthBounds.{copyBitField-length}
@@ -10,7 +10,7 @@ use Rattle.outcomes.specs.Outcome.{done}
 use Rattle.limbwords.specs.Value.{value}
 use Rattle.limbwords.specs.Results.{meaning, Proper}
 use Rattle.limbwords.proofs.ValueLaws.{value-small}
-use Rattle.limbstages.specs.Stages.{mostLimbs, isOperand}
+use Rattle.limbstages.proofs.StageLaws.{limb-operand}
 use Rattle.limbs.specs.Operations.{copyBitOutcome}
 use Rattle.limbs.proofs.CheckLaws.{LegalBit, new-bit-refused, new-bit-legal}
 use Rattle.limbstages.proofs.WritesLaws.{writes-as, writes-refused}
@@ -23,11 +23,11 @@ legal-bit : (c : tie.After-position) → let a = c .before .before .before .befo
 legal-bit c = let a = c .before .before .before .before .before in new-bit-legal (a .args .x .now) (a .fits .position) (a .fits .bit) (c .before .before .check-new-bit .ensures) (c .position .given .1) .0
 
 run-field-requires : tie.Need-run-field-requires
-unfolding meaning Proper isOperand mostLimbs
+unfolding meaning Proper
 run-field-requires c κs =
     let l = legal-bit (c .before .before .before) in
     let last = l .last in
-    ((l .first, refl), (((omega arith, omega arith), omega arith), copyBitField-length _ _ _ _))
+    ((l .first, limb-operand _), (((omega arith, omega arith), omega arith), copyBitField-length _ _ _ _))
 
 returns : tie.Need-returns
 unfolding copyBitOutcome copyBit meaning

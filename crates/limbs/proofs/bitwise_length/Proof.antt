@@ -7,7 +7,7 @@ use mir.ValLaws.{toZ-pos}
 use borrow.Author.Needs.{needs}
 use Rattle.limbs.specs.Operations.{lengthOutcome}
 use Rattle.limbwords.proofs.ValueLaws.{value-length}
-use Rattle.limbstages.proofs.StageLaws.{legal, operand-lengths}
+use Rattle.limbstages.proofs.StageLaws.{legal, operand-lengths, operand-count}
 use Rattle.limbs.proofs.NumberLaws.{refused-operand, answered}
 use Rattle.limbs.proofs.bitwise_length.Statement.{statement}
 use Rattle.limbs.proofs.bitwise_length.Tie as tie
@@ -36,7 +36,7 @@ bitwise-length-spec =
     (λ c κs. search needs)
     (λ c κs. search needs)
     returns
-    (λ c κs. operand-lengths _ (legal (c .before .is-operand .ensures) (c .if1 .left)))
+    (λ c κs. let l = legal (c .before .is-operand .ensures) (c .if1 .left) in (operand-lengths _ l, operand-count _ l))
     cast-done
     (λ c κs. search needs)
     returns-2)

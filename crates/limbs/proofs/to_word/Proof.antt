@@ -6,7 +6,7 @@ use mir.ValLaws.{toZ-ofZ}
 use borrow.Author.Needs.{needs}
 use Rattle.limbs.specs.Operations.{wordOutcome}
 use Rattle.outcomes.proofs.OutcomeLaws.{passed, failed}
-use Rattle.limbstages.proofs.StageLaws.{legal, operand-lengths}
+use Rattle.limbstages.proofs.StageLaws.{legal, operand-lengths, operand-count}
 use Rattle.limbs.proofs.NumberLaws.{refused-operand, later, answered, fits-word, exceeds-word}
 use Rattle.limbs.proofs.to_word.Statement.{statement}
 use Rattle.limbs.proofs.to_word.Tie as tie
@@ -40,7 +40,7 @@ to-word-spec =
     (λ c κs. search needs)
     (λ c κs. search needs)
     returns
-    (λ c κs. operand-lengths _ (legal (c .before .is-operand .ensures) (c .if1 .left)))
+    (λ c κs. let l = legal (c .before .is-operand .ensures) (c .if1 .left) in (operand-lengths _ l, operand-count _ l))
     (λ c κs. search needs)
     returns-2
     word-requires

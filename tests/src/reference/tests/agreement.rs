@@ -5,6 +5,7 @@ use crate::fixnum_arguments::random_width;
 use crate::operation::Operation::{self, *};
 use crate::random::Random;
 use crate::reference::conversion::{fixnum_to_limbs, limbs_to_fixnum};
+use crate::refusal::OPERAND;
 
 /// A code and the limb operation of the same name.
 const PAIRS: [(u64, Operation); 17] = [
@@ -73,6 +74,6 @@ fn conversion_both_ways() {
         let mut limbs = fixnum_to_limbs(width, n).expect("a fixnum");
         assert_eq!(limbs_to_fixnum(width, &limbs), Ok(n));
         limbs.push(if n < 0 { u32::MAX } else { 0 });
-        assert_eq!(limbs_to_fixnum(width, &limbs), Ok(n));
+        assert_eq!(limbs_to_fixnum(width, &limbs), Err(OPERAND));
     }
 }

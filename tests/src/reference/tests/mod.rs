@@ -13,6 +13,7 @@ mod rotations;
 mod rule_numbers;
 mod rules;
 mod samples;
+mod spellings;
 mod whole_words;
 mod wider;
 mod widths;

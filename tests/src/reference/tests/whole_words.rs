@@ -5,7 +5,7 @@ use crate::fixnum_arguments::{beyond, numbers, positions};
 use crate::random::Random;
 use crate::reference::conversion::{fixnum_to_limbs, limbs_to_fixnum};
 use crate::reference::fixnum::{codes_and_counts, fixnum};
-use crate::refusal::{DOMAIN, NOT_FIXNUM, SIZE};
+use crate::refusal::{DOMAIN, NOT_FIXNUM, OPERAND, SIZE};
 
 const LEAST: i64 = i64::MIN;
 const GREATEST: i64 = i64::MAX;
@@ -90,7 +90,7 @@ fn conversions() {
     assert_eq!(fixnum_to_limbs(64, LEAST), Ok(vec![0, 0x8000_0000]));
     assert_eq!(fixnum_to_limbs(64, GREATEST), Ok(vec![u32::MAX, 0x7FFF_FFFF]));
     assert_eq!(limbs_to_fixnum(64, &[0, 0x8000_0000]), Ok(LEAST));
-    assert_eq!(limbs_to_fixnum(64, &[0, 0x8000_0000, u32::MAX]), Ok(LEAST));
+    assert_eq!(limbs_to_fixnum(64, &[0, 0x8000_0000, u32::MAX]), Err(OPERAND));
     assert_eq!(limbs_to_fixnum(64, &[0, 0x8000_0000, 0]), Err(SIZE));
     assert_eq!(limbs_to_fixnum(64, &[u32::MAX, 0x7FFF_FFFF, u32::MAX]), Err(SIZE));
     assert_eq!(limbs_to_fixnum(64, &[0, 0, 1]), Err(SIZE));
