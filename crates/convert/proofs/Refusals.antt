@@ -4,7 +4,6 @@ use mathlib.Core.Path.{_≡_, refl}
 use mathlib.Core.Bool.{Bool, true, false, not, _&&_}
 use mathlib.Core.List.{List}
 use lib.Dec.{eqb}
-use lib.IntN.{ℤ}
 use Rattle.bits.specs.Testbit.{fits}
 use Rattle.fxtable.specs.Domains.{isWidth}
 use Rattle.outcomes.specs.Outcome.{done, guard, guardAt}

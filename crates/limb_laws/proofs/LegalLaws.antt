@@ -2,12 +2,12 @@
 use Prim.Native.Nat.{ℕ, _-_, _≤_}
 use native.Mathlib.Omega.{arith}
 use mathlib.Core.Path.{_≡_, refl, sym, ap, _∙_, subst}
-use mathlib.Core.Bool.{Bool, true, false, not, true≢false}
+use mathlib.Core.Bool.{Bool, true, false, cond, not, true≢false}
 use mathlib.Core.List.{List}
 use lib.Dec.{eqb, leb, lit<}
 use lib.IntN.{ℤ}
 use lib.ListN.{length}
-use borrow.Author.Tests.{le-leb, leb-true, leb-false}
+use borrow.Author.Tests.{le-leb, leb-true}
 use Rattle.bits.specs.Testbit.{fits}
 use Rattle.bits.proofs.LengthLaws.{fits-length}
 use Rattle.bits.proofs.FitsLaws.{is-true}
@@ -15,13 +15,13 @@ use Rattle.outcomes.specs.Outcome.{Outcome, done, guard, guardAt, mapDone, refu
 use Rattle.outcomes.specs.Buffer.{capacity, fitted, afterwards, countOf}
 use Rattle.outcomes.proofs.BufferLaws.{laid-copy}
 use Rattle.limbwords.specs.Value.{value, limbCount, shortest}
-use Rattle.limbwords.proofs.ValueLaws.{value-length, value-shortest, length-shortest, limbCount-positive, limbsOf-lt, isShortest-unique}
+use Rattle.limbwords.proofs.ValueLaws.{value-length, length-shortest, limbCount-positive, limbsOf-lt, isShortest-unique}
 use Rattle.limbstages.specs.declared.Written.{Written}
 use Rattle.limbstages.specs.Buffer.{stored, written, copied, Writes}
-use Rattle.limbstages.specs.Stages.{mostLimbs, hasLimbs}
+use Rattle.limbstages.specs.Stages.{hasLimbs}
 use Rattle.limbstages.proofs.StageLaws.{operand-limbs, operand-shortest, limbs-lengths}
 use Rattle.limbstages.proofs.WritesLaws.{shortest-operand}
-use Rattle.limb_laws.specs.Replies.{Output, Reply, replyTo, limbsIn, hasRoom, Done, Words, Legal}
+use Rattle.limb_laws.specs.Replies.{Output, Reply, replyTo, limbsIn, hasRoom, Done, Legal}
 
 -- ---- legal limbs
 
@@ -57,31 +57,38 @@ module _ (p : Output) where
   abbrev room : ℕ
   room = length (p .buffer) - p .first
 
-  -- what a call with an integer gives back, by whether its limbs fit
+  -- a call with an integer: refused by 8 or done, by whether its limbs fit
   module _ (z : ℤ) where
-    Either : Bool → Type 0
-    Either true = Done (replyTo (done z) p) p (shortest z)
-    Either false = replyTo (done z) p .answer ≡ record { refusal = 8; length = 0 }
+    by-room : (t : Bool) → leb (length (shortest z)) room ≡ t → replyTo (done z) p .answer .refusal ≡ cond t 0 8
+    unfolding replyTo guard guardAt written stored mapDone refusalOf capacity fitted
+    by-room true e = rw e refl
+    by-room false e = rw e refl
 
-    either : (b : Bool) → leb (length (shortest z)) room ≡ b → Either b
-    unfolding Either replyTo limbsIn copied guard guardAt written stored mapDone refusalOf countOf capacity fitted afterwards
-    either true e = record {
-      answered = rw e refl;
-      limbs = rw e (laid-copy (p .buffer) (p .first) (shortest z) (omega (arith, leb-true (length (shortest z)) room e, length-shortest z, limbCount-positive z)));
-    }
-    either false e = rw e refl
+    pub refusal-by-room : replyTo (done z) p .answer .refusal ≡ cond (leb (limbCount z) room) 0 8
+    refusal-by-room =
+        by-room (leb (length (shortest z)) room) refl
+        ∙ ap (λ (n : ℕ). cond (leb n room) 0 8) (length-shortest z)
 
     pub has-room : length (shortest z) ≤ room → hasRoom (replyTo (done z) p) ≡ true
-    unfolding Either hasRoom
-    has-room h = ap (λ (a : Written). not (eqb (a .refusal) 8)) (either true (le-leb (length (shortest z)) room h) .answered)
+    unfolding hasRoom
+    has-room h = ap (λ (n : ℕ). not (eqb n 8)) (by-room true (le-leb (length (shortest z)) room h))
+
+    fitting : length (shortest z) ≤ room → Done (replyTo (done z) p) p (shortest z)
+    unfolding replyTo limbsIn copied guard guardAt written stored mapDone refusalOf countOf capacity fitted afterwards
+    fitting h =
+        let e = le-leb (length (shortest z)) room h in
+        record {
+          answered = rw e refl;
+          limbs = rw e (laid-copy (p .buffer) (p .first) (shortest z) (omega (arith, length-shortest z, limbCount-positive z)));
+        }
 
     pub done-reply : hasRoom (replyTo (done z) p) ≡ true → Done (replyTo (done z) p) p (shortest z)
-    unfolding Either hasRoom
+    unfolding hasRoom
     done-reply h = go (leb (length (shortest z)) room) refl
       where
-        go : (b : Bool) → leb (length (shortest z)) room ≡ b → Done (replyTo (done z) p) p (shortest z)
-        go true e = either true e
-        go false e = absurd (true≢false (sym h ∙ rw (either false e) refl))
+        go : (t : Bool) → leb (length (shortest z)) room ≡ t → Done (replyTo (done z) p) p (shortest z)
+        go true e = fitting (leb-true (length (shortest z)) room e)
+        go false e = absurd (true≢false (sym h ∙ ap (λ (n : ℕ). not (eqb n 8)) (by-room false e)))
 
   -- the same of an outcome that is known to be that integer
   pub done-as : {o : Outcome ℤ} (z : ℤ) → o ≡ done z → hasRoom (replyTo o p) ≡ true → Done (replyTo o p) p (shortest z)

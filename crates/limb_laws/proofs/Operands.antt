@@ -1,5 +1,5 @@
 -- A call is refused by 7 exactly where one of its operands is not legal, and what a done call has written is legal. Assumes nothing.
-use Prim.Native.Nat.{ℕ}
+use Prim.Native.Nat.{ℕ, _-_}
 use native.Mathlib.Omega.{arith}
 use mathlib.Core.Path.{_≡_, refl, sym, ap, ap₂, _∙_}
 use mathlib.Core.Bool.{Bool, true, false, cond, not, _&&_}
@@ -12,9 +12,9 @@ use borrow.Author.Tests.{not-false}
 use Rattle.bits.specs.Testbit.{fits}
 use Rattle.bits.proofs.Booleans.{both-left, both-right}
 use Rattle.outcomes.specs.Outcome.{Outcome, refused, done, guard, guardAt, mapDone, refusalOf}
-use Rattle.outcomes.specs.Buffer.{capacity, fitted}
+use Rattle.outcomes.specs.Buffer.{fitted}
 use Rattle.outcomes.specs.Number.{number}
-use Rattle.limbwords.specs.Value.{value, limbCount, shortest}
+use Rattle.limbwords.specs.Value.{value, limbCount}
 use Rattle.limbstages.specs.Buffer.{stored, written}
 use Rattle.limbstages.specs.Stages.{mostLimbs, isOperand, operand, natural, isField, field, isNewBit, newBit, sized}
 use Rattle.limbs.specs.Operations.{notOutcome, bitwiseOutcome, ifOutcome, copyBitOutcome, bitFieldOutcome, copyBitFieldOutcome, shiftOutcome, shiftLeftOutcome, shiftRightOutcome, rotateOutcome, reverseOutcome, bitCountOutcome, lengthOutcome, firstBitSetOutcome, bitSetOutcome, wordOutcome}
@@ -22,7 +22,7 @@ use Rattle.limb_laws.specs.Replies.{Output, replyTo, Legal}
 use Rattle.limb_laws.specs.Operands.{Call, Question, operandsOf, operandsIn, outcomeOf, outcomeIn, areLegal, AllWords, OperandStatement}
 use Rattle.limb_laws.specs.Operands.Call.{bitwiseNot, bitwise, bitwiseIf, copyBit, bitField, copyBitField, shift, shiftLeft, shiftRight, rotate, reverse}
 use Rattle.limb_laws.specs.Operands.Question.{bitCount, bitLength, firstBitSet, bitSet, word}
-use Rattle.limb_laws.proofs.LegalLaws.{legal-unique}
+use Rattle.limb_laws.proofs.LegalLaws.{legal-unique, refusal-by-room}
 use Rattle.limb_laws.proofs.Results.{result-legal}
 
 -- whether an outcome is refused by 7
@@ -82,11 +82,12 @@ question-seven (word x) = operand-seven x [] _ (no-seven (fits 64 (value x)) 6 _
 
 -- the answer of a call that writes, and of one that does not
 written-seven : (o : Outcome ℤ) (p : Output) → eqb (replyTo o p .answer .refusal) 7 ≡ seven o
-unfolding replyTo written stored mapDone refusalOf fitted guard guardAt
+unfolding replyTo written stored mapDone refusalOf fitted
 written-seven (refused k detail) p = refl
-written-seven (done z) p = go (leb (length (shortest z)) (capacity (p .buffer) (p .first)))
+written-seven (done z) p =
+    ap (λ (n : ℕ). eqb n 7) (refusal-by-room p z) ∙ go (leb (limbCount z) (length (p .buffer) - p .first))
   where
-    go : (t : Bool) → eqb (refusalOf (cond {A = Outcome (List ℕ)} t (done (shortest z)) (refused 8 0))) 7 ≡ false
+    go : (t : Bool) → eqb (cond t 0 8) 7 ≡ false
     go true = refl
     go false = refl
 

@@ -5,40 +5,26 @@ use mathlib.Core.Path.{_≡_, refl, sym, ap, _∙_, subst}
 use mathlib.Core.Bool.{Bool, true, false, cond, not}
 use mathlib.Core.List.{List}
 use lib.Dec.{eqb, leb}
-use lib.IntN.{ℤ}
-use lib.ListN.{length}
-use Rattle.bits.specs.Testbit.{fits}
-use Rattle.outcomes.specs.Outcome.{Outcome, refused, done, guard, guardAt, mapDone, refusalOf}
+use Rattle.outcomes.specs.Outcome.{done, guard, guardAt, mapDone, refusalOf}
 use Rattle.outcomes.specs.Buffer.{capacity, fitted}
 use Rattle.outcomes.proofs.OutcomeLaws.{passed}
 use Rattle.limbwords.specs.Value.{value, limbCount, shortest}
-use Rattle.limbwords.proofs.ValueLaws.{value-shortest, length-shortest}
+use Rattle.limbwords.proofs.ValueLaws.{value-shortest}
 use Rattle.limbstages.specs.declared.Written.{Written}
 use Rattle.limbstages.specs.Buffer.{stored, written}
 use Rattle.limbstages.specs.Stages.{hasLimbs, untrimmed}
 use Rattle.limbs.specs.Operations.{trimOutcome}
 use Rattle.limb_laws.specs.Replies.{Output, replyTo, limbsIn, hasRoom, Done, Legal}
 use Rattle.limb_laws.specs.Spellings.{trimmed, SpellingStatement}
-use Rattle.limb_laws.proofs.LegalLaws.{limbs-fit, shortest-legal, legal-shortest, legal-unique, done-as}
-
--- the refusal of limbs xs that fit where t says so
-fitted-refusal : (t : Bool) (xs : List ℕ) → refusalOf (cond {A = Outcome (List ℕ)} t (done xs) (refused 8 0)) ≡ cond t 0 8
-unfolding refusalOf
-fitted-refusal true xs = refl
-fitted-refusal false xs = refl
+use Rattle.limb_laws.proofs.LegalLaws.{limbs-fit, shortest-legal, legal-shortest, legal-unique, refusal-by-room, done-as}
 
 module _ (x : List ℕ) (p : Output) where
   refusal-is : trimmed x p .answer .refusal ≡ cond (hasLimbs x) (cond (leb (limbCount (value x)) (capacity (p .buffer) (p .first))) 0 8) 7
-  unfolding trimmed trimOutcome untrimmed guard guardAt replyTo written stored mapDone refusalOf fitted
+  unfolding trimmed trimOutcome untrimmed guard guardAt replyTo written stored mapDone refusalOf fitted capacity
   refusal-is = go (hasLimbs x)
     where
-      room : ℕ
-      room = capacity (p .buffer) (p .first)
-
-      go : (b : Bool) → replyTo (guard b 7 (done (value x))) p .answer .refusal ≡ cond b (cond (leb (limbCount (value x)) room) 0 8) 7
-      go true =
-          fitted-refusal (leb (length (shortest (value x))) room) (shortest (value x))
-          ∙ ap (λ (n : ℕ). cond (leb n room) 0 8) (length-shortest (value x))
+      go : (b : Bool) → replyTo (guard b 7 (done (value x))) p .answer .refusal ≡ cond b (cond (leb (limbCount (value x)) (capacity (p .buffer) (p .first))) 0 8) 7
+      go true = refusal-by-room p (value x)
       go false = refl
 
   -- a trim that is done

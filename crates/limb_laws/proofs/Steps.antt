@@ -6,7 +6,6 @@ use mathlib.Core.Bool.{Bool, true, false, cond, true≢false}
 use mathlib.Core.List.{List, [], _∷_}
 use lib.Dec.{eqb, leb}
 use lib.IntN.{ℤ, pos}
-use lib.ListN.{length}
 use borrow.Author.Tests.{le-leb, leb-true}
 use Rattle.bits.specs.Testbit.{fits}
 use Rattle.bits.specs.FieldList.{FieldCall, rotate, reverse, runCall, runCalls}
@@ -14,7 +13,7 @@ use Rattle.bits.specs.Range.{within}
 use Rattle.bits.proofs.Booleans.{both-left, both-right}
 use Rattle.bits.proofs.ListTheorem.{calls-fit}
 use Rattle.outcomes.specs.Outcome.{Outcome, done, guard, guardAt, mapDone, refusalOf}
-use Rattle.outcomes.specs.Buffer.{capacity, fitted, afterwards, countOf}
+use Rattle.outcomes.specs.Buffer.{capacity, fitted}
 use Rattle.outcomes.proofs.OutcomeLaws.{passed}
 use Rattle.limbwords.specs.Value.{value, shortest}
 use Rattle.limbwords.proofs.ValueLaws.{value-shortest}

@@ -10,7 +10,7 @@ use Rattle.outcomes.specs.Buffer.{capacity}
 use Rattle.limbwords.specs.Value.{value, limbCount}
 use Rattle.limbstages.specs.Stages.{hasLimbs}
 use Rattle.limbs.specs.Operations.{trimOutcome}
-use Rattle.limb_laws.specs.Replies.{Output, Reply, replyTo, limbsIn, Done, Words, Legal}
+use Rattle.limb_laws.specs.Replies.{Output, Reply, replyTo, limbsIn, Done, Legal}
 
 unfoldable pub trimmed : List ℕ → Output → Reply
 trimmed x p = replyTo (trimOutcome x) p

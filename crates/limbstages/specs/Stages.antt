@@ -2,7 +2,7 @@
 --   mostLimbs                ==  1,024
 --   hasLimbs xs              ==  whether xs has 1 to 1,024 limbs
 --   untrimmed xs o           ==  o, or refusal 7 where it has not: the operand of trim, which may be padded
---   isOperand xs             ==  whether xs has 1 to 1,024 limbs, and they are the shortest of their integer: document 01's legal limbs
+--   isOperand xs             ==  whether xs has 1 to 1,024 limbs, and they are the shortest of their integer: a legal number of document 01
 --   operand xs o             ==  o, or refusal 7 where xs is no such operand
 --   natural n o              ==  o, or refusal 5 where n is negative: a distance, a rotation's count, a position of bit-set?
 --   isField, field start end ==  whether 0 <= start <= end <= 32,767; the stage that refuses by 5 where not

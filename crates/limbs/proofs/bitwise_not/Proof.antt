@@ -8,7 +8,7 @@ use Rattle.bits.specs.Logical.{bitwise}
 use Rattle.bits.proofs.LengthLaws.{bitLength-not}
 use Rattle.bits.proofs.LogicalLaws.{not-bitwise}
 use Rattle.outcomes.specs.Outcome.{done}
-use Rattle.limbwords.specs.Value.{value, limbCount}
+use Rattle.limbwords.specs.Value.{limbCount}
 use Rattle.limbwords.specs.Results.{logicOf, meaning, Proper}
 use Rattle.limbstages.proofs.StageLaws.{legal, illegal, operand-passed, operand-failed, operand-lengths, operand-count}
 use Rattle.limbstages.proofs.WritesLaws.{writes-as, writes-refused}
