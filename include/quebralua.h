@@ -1,13 +1,14 @@
 /* Quebralua: the R6RS fixnum operations at any width from 24 to 64, the R6RS bitwise operations on integers in 32-bit
-   limbs, the conversions between the two, the running fold that makes an identifier of bytes, and stored rules. Link
-   libquebralua.a, which `rt staticlib quebralua` writes.
+   limbs, the conversions between the two, the running fold that makes an identifier of bytes, stored rules, and some
+   flonums. Link libquebralua.a, which `rt staticlib quebralua` writes.
 
    Every call returns, whatever numbers come in. An answer begins with a refusal number:
 
      0  done
      1  the width is below 24 or above 64
      2  the code is not 1 to 41
-     3  the argument count is not allowed for the code, or the inputs of a rule are not sixteen
+     3  the argument count is not allowed for the code, the inputs of a rule are not sixteen, or the count of flonums is
+        not 1 to 4
      4  a counted argument, the number to convert, the accumulator, a piece, or a constant or an input of a rule is not a
         fixnum at the width; never at width 64, where each int64_t is one
      5  a divisor, position, field, distance, count or new bit is outside its domain;
@@ -20,8 +21,9 @@
 
    The first that holds is given, in this order: fixnum calls 1, 2, 3, 4, 5, 6; limb calls 7, 5, 6, 8; limbs to fixnum
    1, 7, 6; fixnum to limbs 1, 4, 8; opening a fold 1, 4, 5; its other calls 9, 4. Reading a rule gives 10 alone; its evaluation
-   3, 10, and then what it meets first of 4, 5, 6. A refused call answers 0 for every result and length, and writes no
-   limb of the output buffer. It leaves a fold as it was, unless it is an opening.
+   3, 10, and then what it meets first of 4, 5, 6. A fixnum to a flonum 1, 4; the smallest and the largest flonum 3. A refused
+   call answers 0 for every result and length, and writes no limb of the output buffer. It leaves a fold as it was, unless
+   it is an opening.
 
    The `place` of a fixnum answer says which argument refusal 4 or 5 is about, 1 for a to 4 for d. For 4 it is the first
    counted argument that is not a fixnum; for 5 the first, left to right, that is outside its domain, given those before
@@ -33,7 +35,10 @@
      inputs of a rule, and `out` for writing `nout` limbs. NULL is fine where the length is 0. A `ql_fold *` is never NULL.
    - The output buffer overlaps no operand, and a fold none of the bytes of its chunk. Operands may overlap each other.
    - No other thread writes these limbs, bytes or folds during the call, nor reads a fold that the call changes. The
-     library keeps no state and no pointer between calls. */
+     library keeps no state and no pointer between calls.
+   - Flonum calls are made while rounding is to nearest (FE_TONEAREST of <fenv.h>, which every program starts with) and
+     subnormal numbers are not taken for zero (as code built with -ffast-math may have set). In another rounding mode
+     ql_fixnum_to_flonum may answer the other of the two flonums around the fixnum; nothing else depends on that mode. */
 
 #ifndef QUEBRALUA_H
 #define QUEBRALUA_H
@@ -208,6 +213,38 @@ ql_rule_read_answer ql_rule_read(const uint8_t *rule, size_t n);
    arguments of a call are evaluated from left to right, all of them, and then the call is made as ql_fixnum makes it. The
    first refusal is the rule's, with the place of the call that it is met in. Inputs that the rule does not name have no influence. */
 ql_rule_answer ql_rule_evaluate(const uint8_t *rule, size_t n, const int64_t *inputs, size_t ninputs);
+
+/* Flonums: IEEE numbers of 64 bits.
+
+   `kind` says what a call answers: 0 a refusal, 1 a fixnum, 2 a flonum; the other field is 0. But for the two questions,
+   a NaN that counts, whatever its sign and payload, gives the one NaN whose bits are 0x7FF8000000000000. */
+typedef struct { uint64_t refusal; uint64_t kind; int64_t fixnum; double flonum; } ql_flonum_answer;
+
+/* The flonum that is nearest to the fixnum n at the width; of two that are as near, the one whose last bit is 0. */
+ql_flonum_answer ql_fixnum_to_flonum(uint64_t width, int64_t n);
+
+/* x rounded to a whole number: down, up, toward zero, or to the nearest, where of two that are as near the even one is
+   taken. An infinity stays. The sign stays, too: -0.0 stays -0.0, and a negative x that rounds to zero gives -0.0. */
+ql_flonum_answer ql_flfloor(double x);
+ql_flonum_answer ql_flceiling(double x);
+ql_flonum_answer ql_fltruncate(double x);
+ql_flonum_answer ql_flround(double x);
+
+/* x with its sign bit cleared. */
+ql_flonum_answer ql_flabs(double x);
+
+/* The fixnum 1 if x is a NaN, else 0; and 1 if x is neither a NaN nor an infinity, else 0. */
+ql_flonum_answer ql_flnan(double x);
+ql_flonum_answer ql_flfinite(double x);
+
+/* The smallest and the largest of the first `count` of a, b, c, d; the others have no influence. Of equal ones, -0.0 and
+   0.0 too, the earlier argument is answered. One NaN among them gives the one NaN in both halves. A refused call answers
+   0.0 in both. */
+typedef struct { uint64_t refusal; double smallest; double largest; } ql_extremes;
+ql_extremes ql_flextremes(uint64_t count, double a, double b, double c, double d);
+
+/* The bits of x; for every NaN those of the one NaN. */
+uint64_t ql_flonum_bits(double x);
 
 #ifdef __cplusplus
 }

@@ -7,6 +7,7 @@ mod binding;
 mod count_case;
 mod fixnum_calls;
 mod fixnum_case;
+mod flonum_case;
 mod fold_case;
 mod fold_compare;
 mod gmp;
@@ -15,6 +16,7 @@ mod inputs;
 mod limb_calls;
 mod limb_case;
 mod plain_fixnum;
+mod plain_flonum;
 mod plain_fold;
 mod plain_limbs;
 mod plain_rule;
@@ -45,13 +47,15 @@ fn main() {
     let mut folds = fold_case::cases(&mut random);
     let mut rules = rule_case::cases(&mut random);
     let mut counts = count_case::cases(&mut random);
+    let mut flonums = flonum_case::cases(&mut random);
     for _ in 0..SWEEPS {
         let lengths = [&mut limbs.one, &mut limbs.medium, &mut limbs.long, &mut limbs.short_results];
         let counts = counts.iter_mut().map(|row| &mut row.case);
         let fixnums = fixnums.iter_mut().map(|row| &mut row.case);
         let folds = folds.iter_mut().flat_map(FoldCases::all);
         let rules = rules.iter_mut().flat_map(RuleCases::both);
-        for case in lengths.into_iter().flatten().chain(counts).chain(fixnums).chain(folds).chain(rules) {
+        let others = counts.chain(fixnums).chain(folds).chain(rules).chain(&mut flonums);
+        for case in lengths.into_iter().flatten().chain(others) {
             case.measure();
         }
     }
@@ -65,7 +69,9 @@ fn main() {
     println!();
     tables::rules(&rules);
     println!();
-    tables::aims(&limbs, &counts, &fixnums, &folds, &rules);
+    tables::flonums(&flonums);
+    println!();
+    tables::aims(&limbs, &counts, &fixnums, &folds, &rules, &flonums);
 }
 
 fn limb_cases(random: &mut Random) -> LimbCases {

@@ -45,6 +45,9 @@ const FOLD_AIM: f64 = 1.2;
 /// How many times plain Rust's time a rule may take.
 const RULE_AIM: f64 = 3.0;
 
+/// How many times plain Rust's time a flonum call may take.
+const FLONUM_AIM: f64 = 3.0;
+
 /// How many times the least time for a byte the others of the same shape may take.
 const LINEAR_AIM: f64 = 1.5;
 
@@ -113,7 +116,23 @@ pub fn rules(rows: &[RuleCases]) {
     }
 }
 
-pub fn aims(limbs: &LimbCases, counts: &[CountCase], fixnums: &[FixnumCase], folds: &[FoldCases], rules: &[RuleCases]) {
+pub fn flonums(cases: &[Case]) {
+    println!("### Flonum calls\n");
+    println!("| Flonum call | Rust |");
+    println!("|---|--:|");
+    for case in cases {
+        println!("| {} | {} |", case.name, ratio(case.over_plain()));
+    }
+}
+
+pub fn aims(
+    limbs: &LimbCases,
+    counts: &[CountCase],
+    fixnums: &[FixnumCase],
+    folds: &[FoldCases],
+    rules: &[RuleCases],
+    flonums: &[Case],
+) {
     let fixnums = fixnums.iter().map(|row| &row.case);
     let aimed = || limbs.long.iter().filter(|case| LIMB_AIM_CALLS.contains(&case.name.as_str()));
     let least = |case: &Case| over_gmp(case).min(case.over_plain());
@@ -135,6 +154,7 @@ pub fn aims(limbs: &LimbCases, counts: &[CountCase], fixnums: &[FixnumCase], fol
     );
     println!("| Chunks of 16 and 256 bytes: the same | {} |", missed(short, Case::over_plain, FOLD_AIM));
     rule_aims(rules);
+    println!("| Flonum calls: within 3 times plain Rust | {} |", missed(flonums.iter(), Case::over_plain, FLONUM_AIM));
 }
 
 fn count_aims(rows: &[CountCase]) {

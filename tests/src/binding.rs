@@ -133,6 +133,35 @@ pub struct RuleRefusal {
     pub offset: Option<u64>,
 }
 
+/// The answer of a call on one flonum, and of fixnum->flonum. Refusal 0 is done. The kind is 1 for a fixnum, 2 for a
+/// flonum, and 0 for neither where the call is refused; the field that is not meant is 0.
+///
+/// It has no `PartialEq`: -0.0 would equal 0.0, and the NaN nothing. `to_bits` tells flonums apart.
+#[derive(Clone, Copy, Debug)]
+#[repr(C)]
+pub struct FlonumAnswer {
+    pub refusal: u64,
+    pub kind: u64,
+    pub fixnum: i64,
+    pub flonum: f64,
+}
+
+/// What a done call answers: a fixnum for `flnan` and `flfinite`, else a flonum.
+#[derive(Clone, Copy, Debug)]
+pub enum Number {
+    Fixnum(i64),
+    Flonum(f64),
+}
+
+/// The smallest and the largest of some flonums. Refusal 0 is done; a refused call has 0.0 in both.
+#[derive(Clone, Copy, Debug)]
+#[repr(C)]
+pub struct Extremes {
+    pub refusal: u64,
+    pub smallest: f64,
+    pub largest: f64,
+}
+
 impl Refusal {
     /// The refusal with this number, which is 1 to 10.
     fn from_number(number: u64) -> Refusal {
@@ -194,6 +223,26 @@ impl RuleReadAnswer {
         match self.refusal {
             0 => Ok(self.width),
             number => Err(RuleRefusal::from_numbers(number, 0, self.offset)),
+        }
+    }
+}
+
+impl FlonumAnswer {
+    pub fn result(self) -> Result<Number, Refusal> {
+        match (self.refusal, self.kind) {
+            (0, 1) => Ok(Number::Fixnum(self.fixnum)),
+            (0, _) => Ok(Number::Flonum(self.flonum)),
+            (number, _) => Err(Refusal::from_number(number)),
+        }
+    }
+}
+
+impl Extremes {
+    /// The smallest, then the largest.
+    pub fn result(self) -> Result<(f64, f64), Refusal> {
+        match self.refusal {
+            0 => Ok((self.smallest, self.largest)),
+            number => Err(Refusal::from_number(number)),
         }
     }
 }
@@ -387,6 +436,69 @@ pub fn rule_evaluate_any(rule: &[u8], inputs: &[i64]) -> RuleAnswer {
     unsafe { ql_rule_evaluate(read(rule), rule.len(), read(inputs), inputs.len()) }
 }
 
+/// The flonum that is nearest to the fixnum; of two that are as near, the one whose last bit is 0. Flonum calls are
+/// made while rounding is to nearest, as in every program that does not change it.
+///
+/// ```ignore
+/// if let Number::Flonum(x) = fixnum_to_flonum(61, 7).result()? {
+///     println!("{x}"); // 7
+/// }
+/// ```
+pub fn fixnum_to_flonum(width: u64, n: i64) -> FlonumAnswer {
+    unsafe { ql_fixnum_to_flonum(width, n) }
+}
+
+/// Down to a whole number. The roundings keep an infinity, and the sign also of a result that is zero.
+pub fn flfloor(x: f64) -> FlonumAnswer {
+    unsafe { ql_flfloor(x) }
+}
+
+/// Up to a whole number.
+pub fn flceiling(x: f64) -> FlonumAnswer {
+    unsafe { ql_flceiling(x) }
+}
+
+/// To a whole number toward zero.
+pub fn fltruncate(x: f64) -> FlonumAnswer {
+    unsafe { ql_fltruncate(x) }
+}
+
+/// To the nearest whole number, and to the even one of two that are as near.
+pub fn flround(x: f64) -> FlonumAnswer {
+    unsafe { ql_flround(x) }
+}
+
+/// With the sign bit cleared.
+pub fn flabs(x: f64) -> FlonumAnswer {
+    unsafe { ql_flabs(x) }
+}
+
+/// The fixnum 1 for a NaN, else 0.
+pub fn flnan(x: f64) -> FlonumAnswer {
+    unsafe { ql_flnan(x) }
+}
+
+/// The fixnum 0 for a NaN or an infinity, else 1.
+pub fn flfinite(x: f64) -> FlonumAnswer {
+    unsafe { ql_flfinite(x) }
+}
+
+/// The smallest and the largest of the first `count` of the arguments, 1 to 4. Of equal ones, -0.0 and 0.0 too, the
+/// earlier is answered. Refused with `ArgumentCount` for any other count.
+///
+/// ```ignore
+/// let (smallest, largest) = flextremes(3, [0.5, -2.0, 7.0, 0.0]).result()?; // -2.0 and 7.0
+/// ```
+pub fn flextremes(count: u64, args: [f64; 4]) -> Extremes {
+    let [a, b, c, d] = args;
+    unsafe { ql_flextremes(count, a, b, c, d) }
+}
+
+/// The bits of a flonum; for every NaN those of the one NaN that calls answer, 0x7FF8000000000000.
+pub fn flonum_bits(x: f64) -> u64 {
+    unsafe { ql_flonum_bits(x) }
+}
+
 fn read<T>(items: &[T]) -> *const T {
     if items.is_empty() {
         std::ptr::null()
@@ -468,4 +580,14 @@ extern "C" {
     fn ql_fold_join(fold: &mut Fold, piece: i64, n: u64) -> Folded;
     fn ql_rule_read(rule: *const u8, n: usize) -> RuleReadAnswer;
     fn ql_rule_evaluate(rule: *const u8, n: usize, inputs: *const i64, ninputs: usize) -> RuleAnswer;
+    fn ql_fixnum_to_flonum(width: u64, n: i64) -> FlonumAnswer;
+    fn ql_flfloor(x: f64) -> FlonumAnswer;
+    fn ql_flceiling(x: f64) -> FlonumAnswer;
+    fn ql_fltruncate(x: f64) -> FlonumAnswer;
+    fn ql_flround(x: f64) -> FlonumAnswer;
+    fn ql_flabs(x: f64) -> FlonumAnswer;
+    fn ql_flnan(x: f64) -> FlonumAnswer;
+    fn ql_flfinite(x: f64) -> FlonumAnswer;
+    fn ql_flextremes(count: u64, a: f64, b: f64, c: f64, d: f64) -> Extremes;
+    fn ql_flonum_bits(x: f64) -> u64;
 }

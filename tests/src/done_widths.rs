@@ -1,6 +1,7 @@
 //! At which widths each operation that takes one was seen done. Every accepted width has to come for each of them.
 
 use quebralua_reference::call::{FixnumCall, LimbCall};
+use quebralua_reference::flonum_call::{FlonumCall, FlonumOperation};
 use quebralua_reference::fold_call::{FoldCall, FoldOperation};
 use quebralua_reference::operation::{Operation, FIXNUM_NAMES};
 use quebralua_reference::reference::fold::Fold;
@@ -23,6 +24,7 @@ pub struct DoneWidths {
     folds: [Counts; FoldOperation::ALL.len()],
     /// In the order of `RuleOperation::ALL`, by the width that the rule runs at.
     rules: [Counts; RuleOperation::ALL.len()],
+    fixnum_to_flonum: Counts,
 }
 
 impl DoneWidths {
@@ -32,6 +34,7 @@ impl DoneWidths {
             limbs: [NONE; Operation::ALL.len()],
             folds: [NONE; FoldOperation::ALL.len()],
             rules: [NONE; RuleOperation::ALL.len()],
+            fixnum_to_flonum: NONE,
         }
     }
 
@@ -53,6 +56,12 @@ impl DoneWidths {
         self.rules[call.operation() as usize][rule.width() as usize] += 1;
     }
 
+    pub fn flonum(&mut self, call: &FlonumCall) {
+        if call.operation == FlonumOperation::FixnumToFlonum {
+            self.fixnum_to_flonum[call.width as usize] += 1;
+        }
+    }
+
     /// Every operation and accepted width without a done call.
     pub fn missing(&self) -> impl Iterator<Item = String> + '_ {
         self.rows().flat_map(|(name, counts)| {
@@ -68,7 +77,9 @@ impl DoneWidths {
         let limbs = limbs.map(|(operation, counts)| (operation.name(), counts));
         let folds = folds.map(|(operation, counts)| (operation.name(), counts));
         let rules = RuleOperation::ALL.into_iter().zip(&self.rules);
-        fixnum.chain(limbs).chain(folds).chain(rules.map(|(operation, counts)| (operation.name(), counts)))
+        let rules = rules.map(|(operation, counts)| (operation.name(), counts));
+        let conversion = std::iter::once((FlonumOperation::FixnumToFlonum.name(), &self.fixnum_to_flonum));
+        fixnum.chain(limbs).chain(folds).chain(rules).chain(conversion)
     }
 }
 

@@ -2,6 +2,7 @@
 
 use crate::binding::*;
 use quebralua_reference::call::{FixnumCall, LimbCall};
+use quebralua_reference::flonum_call::{self, FlonumCall, FlonumOperation};
 use quebralua_reference::fold_call::{FoldAnswer, FoldCall};
 use quebralua_reference::operation::Operation::*;
 use quebralua_reference::reference::fold as reference;
@@ -77,6 +78,28 @@ pub fn call_rule(call: &RuleCall) -> described::RuleAnswer {
             described::RuleAnswer { refusal, place, offset, value }
         }
     }
+}
+
+pub fn call_flonum(call: &FlonumCall) -> flonum_call::FlonumAnswer {
+    let flonums = call.flonums.map(f64::from_bits);
+    let x = flonums[0];
+    let FlonumAnswer { refusal, kind, fixnum, flonum } = match call.operation {
+        FlonumOperation::FixnumToFlonum => fixnum_to_flonum(call.width, call.fixnum),
+        FlonumOperation::Floor => flfloor(x),
+        FlonumOperation::Ceiling => flceiling(x),
+        FlonumOperation::Truncate => fltruncate(x),
+        FlonumOperation::Round => flround(x),
+        FlonumOperation::Abs => flabs(x),
+        FlonumOperation::Nan => flnan(x),
+        FlonumOperation::Finite => flfinite(x),
+        FlonumOperation::Bits => return flonum_call::FlonumAnswer::Bits(flonum_bits(x)),
+        FlonumOperation::Extremes => {
+            let Extremes { refusal, smallest, largest } = flextremes(call.count, flonums);
+            let [smallest, largest] = [smallest, largest].map(f64::to_bits);
+            return flonum_call::FlonumAnswer::Extremes { refusal, smallest, largest };
+        }
+    };
+    flonum_call::FlonumAnswer::One { refusal, kind, fixnum, flonum: flonum.to_bits() }
 }
 
 /// The record of the C library that holds these numbers.

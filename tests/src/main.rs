@@ -1,7 +1,8 @@
 //! Compares the C library with the second implementation: every edge of the calls, random calls, lists of calls, folds,
-//! and stored rules. Then compares the library's answers with each other: at each width with those at the greater ones,
-//! and spellings of integers, folds and rules by their laws. Ends with status 1 at the first difference, and where some
-//! operation, width, refusal, place, case of an operand, a fold or a rule, or law was never seen.
+//! stored rules, and flonums. Then compares the library's answers with each other: at each width with those at the
+//! greater ones, and spellings of integers, folds, rules and flonums by their laws. Ends with status 1 at the first
+//! difference, and where some operation, width, refusal, place, case of an operand, a fold, a rule or a flonum, or law
+//! was never seen.
 
 mod agreement;
 mod binding;
@@ -10,6 +11,9 @@ mod checker;
 mod combinations;
 mod done_widths;
 mod edges;
+mod flonum_cases;
+mod flonum_checker;
+mod flonums;
 mod fold_cases;
 mod fold_checker;
 mod folds;
@@ -20,6 +24,7 @@ mod options;
 mod outputs;
 mod random_calls;
 mod report;
+mod rounding_modes;
 mod rule_breaches;
 mod rule_cases;
 mod rule_checker;
@@ -55,9 +60,13 @@ fn main() {
     let laws = phase(&mut checker, "random folds, and their laws", |checker| folds::run(checker, options.folds));
     phase(&mut checker, "edges of the rules", edges::rules);
     let rules = phase(&mut checker, "random rules, and their laws", |checker| rules::run(checker, &options));
-    println!("{spellings}\n{agreement}\n{laws}\n{rules}\n\n{}", checker.tally);
+    phase(&mut checker, "edges of the flonums", edges::flonums);
+    let flonums =
+        phase(&mut checker, "random flonums, and their laws", |checker| flonums::run(checker, options.flonums));
+    let modes = phase(&mut checker, "rounding modes", rounding_modes::run);
+    println!("{spellings}\n{agreement}\n{laws}\n{rules}\n{flonums}\n{modes}\n\n{}", checker.tally);
     let laws_missing = [spellings.missing(), agreement.missing(), laws.missing(), rules.missing()].concat();
-    let missing = [checker.tally.missing(), laws_missing].concat();
+    let missing = [checker.tally.missing(), laws_missing, flonums.missing(), modes.missing()].concat();
     if !missing.is_empty() {
         println!("NOT SEEN\n{}", missing.join("\n"));
         exit(1);

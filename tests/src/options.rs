@@ -3,7 +3,7 @@
 use quebralua_reference::random::clock;
 
 pub const USAGE: &str = "\
-usage: quebralua-tests [--seed N] [--calls N] [--lists N] [--folds N] [--rules N]
+usage: quebralua-tests [--seed N] [--calls N] [--lists N] [--folds N] [--rules N] [--flonums N]
                        [--all-changes] [--edges-every N] [--no-guards] [--trace]
   --seed N         the seed of every random choice (default: from the clock); it is printed
   --calls N        how many random calls, a twentieth as many at every width, and a hundredth as many spellings of
@@ -11,6 +11,8 @@ usage: quebralua-tests [--seed N] [--calls N] [--lists N] [--folds N] [--rules N
   --lists N        how many random lists of fixnum rotations and reversals, and four times fewer of limbs (default 20000)
   --folds N        how many random folds at each width, and as many of each of their laws (default 500)
   --rules N        how many accepted random rules, each changed and cut in many ways (default 1000)
+  --flonums N      how many random flonums, each given to every call of one flonum, a quarter as many fixnums and
+                   lists of flonums, and a fiftieth as many samples for their laws (default 10000000)
   --all-changes    gives each byte of those rules every other value, also in long rules
   --edges-every N  makes one of N edge calls, chosen at random (default 1: all of them)
   --no-guards      gives each output buffer, record, chunk, rule and list of inputs an allocation of its own, without
@@ -23,6 +25,7 @@ pub struct Options {
     pub lists: u64,
     pub folds: u64,
     pub rules: u64,
+    pub flonums: u64,
     pub all_changes: bool,
     pub edges_every: u64,
     pub no_guards: bool,
@@ -37,6 +40,7 @@ impl Options {
             lists: 20_000,
             folds: 500,
             rules: 1_000,
+            flonums: 10_000_000,
             all_changes: false,
             edges_every: 1,
             no_guards: false,
@@ -53,6 +57,7 @@ impl Options {
                 "--lists" => &mut options.lists,
                 "--folds" => &mut options.folds,
                 "--rules" => &mut options.rules,
+                "--flonums" => &mut options.flonums,
                 "--edges-every" => &mut options.edges_every,
                 "--all-changes" => {
                     options.all_changes = true;

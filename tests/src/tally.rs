@@ -1,11 +1,13 @@
 //! How many calls of each operation were compared, and how they were answered.
 
 use crate::done_widths::DoneWidths;
+use crate::flonum_cases::FlonumCases;
 use crate::fold_cases::FoldCases;
 use crate::operand_cases::OperandCases;
 use crate::rule_cases::RuleCases;
 use quebralua_reference::call::{FixnumCall, LimbCall};
 use quebralua_reference::fixnum_answers::fixnum_answers;
+use quebralua_reference::flonum_call::{FlonumCall, FlonumOperation};
 use quebralua_reference::fold_call::{FoldAnswer, FoldCall, FoldOperation};
 use quebralua_reference::operation::{Operation, FIXNUM_NAMES};
 use quebralua_reference::reference::fold::Fold;
@@ -32,6 +34,9 @@ pub struct Tally {
     /// In the order of `RuleOperation::ALL`.
     rules: [Counts; RuleOperation::ALL.len()],
     rule_cases: RuleCases,
+    /// In the order of `FlonumOperation::ALL`.
+    flonums: [Counts; FlonumOperation::ALL.len()],
+    flonum_cases: FlonumCases,
     widths: DoneWidths,
     total: u64,
 }
@@ -46,6 +51,8 @@ impl Tally {
             fold_cases: FoldCases::new(),
             rules: [NONE; RuleOperation::ALL.len()],
             rule_cases: RuleCases::new(),
+            flonums: [NONE; FlonumOperation::ALL.len()],
+            flonum_cases: FlonumCases::new(),
             widths: DoneWidths::new(),
             total: 0,
         }
@@ -89,8 +96,17 @@ impl Tally {
         }
     }
 
-    /// Every operation and possible answer, every width of an operation, and every case of an operand, a fold or a rule,
-    /// that no compared call has shown.
+    pub fn flonum(&mut self, call: &FlonumCall, refusal: u64) {
+        self.flonums[call.operation as usize][refusal as usize][0] += 1;
+        self.total += 1;
+        self.flonum_cases.count(call, refusal);
+        if refusal == DONE {
+            self.widths.flonum(call);
+        }
+    }
+
+    /// Every operation and possible answer, every width of an operation, and every case of an operand, a fold, a rule
+    /// or a flonum, that no compared call has shown.
     pub fn missing(&self) -> Vec<String> {
         let mut missing = Vec::new();
         for (name, counts, possible) in self.rows() {
@@ -104,6 +120,7 @@ impl Tally {
         missing.extend(self.operand_cases.missing());
         missing.extend(self.fold_cases.missing());
         missing.extend(self.rule_cases.missing());
+        missing.extend(self.flonum_cases.missing());
         missing
     }
 
@@ -123,7 +140,11 @@ impl Tally {
             let counts = &self.rules[operation as usize];
             (operation.name(), counts, operation.answers())
         });
-        unknown.chain(fixnum).chain(limbs).chain(folds).chain(rules)
+        let flonums = FlonumOperation::ALL.iter().map(|&operation| {
+            let counts = &self.flonums[operation as usize];
+            (operation.name(), counts, operation.answers().iter().map(|&refusal| (refusal, 0)).collect())
+        });
+        unknown.chain(fixnum).chain(limbs).chain(folds).chain(rules).chain(flonums)
     }
 }
 
@@ -160,6 +181,6 @@ impl fmt::Display for Tally {
             writeln!(f)?;
         }
         writeln!(f, "{:28}{:>10}  {}", "all", self.total, self.widths)?;
-        write!(f, "{}\n{}\n{}", self.operand_cases, self.fold_cases, self.rule_cases)
+        write!(f, "{}\n{}\n{}\n{}", self.operand_cases, self.fold_cases, self.rule_cases, self.flonum_cases)
     }
 }

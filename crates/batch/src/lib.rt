@@ -3,6 +3,7 @@ ghost use mathlib.Core.Path.{_≡_};
 ghost use Prim.Native.Nat.{_≤_};
 ghost use lib.ListN.{length};
 use bytes::scan::find;
+use flcalls::reply_fl;
 use fxcalls::fx::reply_fx;
 use limbcalls::bitwise::reply_bitwise;
 use line::count;
@@ -76,6 +77,9 @@ fn reply_line(line: &[u8], out: &mut [u8]) -> Reply {
     }
     if is_word(line, 1, b"bitwise") {
         return reply_bitwise(line, out);
+    }
+    if is_word(line, 1, b"fl") {
+        return reply_fl(line, b", ", out);
     }
     trouble(line, 1, Expected::LineCommand, out)
 }

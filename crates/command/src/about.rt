@@ -1,11 +1,13 @@
 // `help`: what the command and each operation do.
 ghost use Rattle.io.specs.Counts.{Counts};
+use flcalls::counts::least;
+use flcalls::counts::most;
+use flcalls::reply_fl;
 use fxcalls::domains::put_domains;
 use fxcalls::fx::reply_fx;
 use fxtable::table::signature_of;
 use limbcalls::bitwise::reply_bitwise;
 use limbcalls::rules::arity;
-use limbcalls::rules::likeness;
 use limbcalls::rules::put_bitwise_domains;
 use line::count;
 use line::is_word;
@@ -27,24 +29,24 @@ use output::put;
 use output::put_natural;
 
 // The line of an operation, and its meaning.
-fn put_definition(table: Table, number: u64, code: u64, out: &mut [u8]) -> usize {
+fn put_definition(table: Table, number: u64, out: &mut [u8]) -> usize {
     let at = put_entry(table, number, out, 0);
     let at = put(b"\n", out, at);
-    let at = put_meaning(code, out, at);
+    let at = put_meaning(table, number, out, at);
     put(b"\n", out, at)
 }
 
 // `ql fx 24 fxand 12 10`, without the ql, in a buffer of its own.
-fn put_example(command: &[u8], table: Table, number: u64, code: u64, out: &mut [u8]) -> usize {
+fn put_example(command: &[u8], table: Table, number: u64, out: &mut [u8]) -> usize {
     let at = put(command, out, 0);
     let at = put_name(table, number, out, at);
     let at = put(b" ", out, at);
-    put_sample(code, out, at)
+    put_sample(table, number, out, at)
 }
 
 fn put_fixnum_help(code: u64, out: &mut [u8]) -> usize {
     let signature = signature_of(code);
-    let at = put_definition(Table::Fixnum, code, code, out);
+    let at = put_definition(Table::Fixnum, code, out);
     let at = put(b"code ", out, at);
     let at = put_natural(code, out, at);
     let at = put(b", ", out, at);
@@ -55,10 +57,16 @@ fn put_fixnum_help(code: u64, out: &mut [u8]) -> usize {
 
 fn put_bitwise_help(index: u64, out: &mut [u8]) -> usize {
     let n = arity(index) as u64;
-    let at = put_definition(Table::Bitwise, index, likeness(index), out);
+    let at = put_definition(Table::Bitwise, index, out);
     let at = put_counts(n, n, out, at);
     let at = put(b"\n", out, at);
     put_bitwise_domains(index, out, at)
+}
+
+fn put_flonum_help(index: u64, out: &mut [u8]) -> usize {
+    let at = put_definition(Table::Flonum, index, out);
+    let at = put_counts(least(index), most(index), out, at);
+    put(b"\n", out, at)
 }
 
 fn put_answer(line: &[u8], out: &mut [u8]) -> usize
@@ -68,21 +76,18 @@ fn put_answer(line: &[u8], out: &mut [u8]) -> usize
         let reply = reply_fx(line, b", ", out);
         return put(b"", out, reply.filled);
     }
+    if is_word(line, 1, b"fl") {
+        let reply = reply_fl(line, b", ", out);
+        return put(b"", out, reply.filled);
+    }
     let reply = reply_bitwise(line, out);
     put(b"", out, reply.filled)
 }
 
 // An example and what the command answers to it.
-fn put_tried(
-    command: &[u8],
-    table: Table,
-    number: u64,
-    code: u64,
-    out: &mut [u8],
-    at: usize,
-) -> usize {
+fn put_tried(command: &[u8], table: Table, number: u64, out: &mut [u8], at: usize) -> usize {
     let mut text = [0u8; 128];
-    let n = put_example(command, table, number, code, &mut text);
+    let n = put_example(command, table, number, &mut text);
     let n = put(b"", &mut text, n);
     let at = put(b"  $ ql ", out, at);
     let at = put(&text[..n], out, at);
@@ -103,12 +108,17 @@ pub fn reply_about(line: &[u8], i: usize, out: &mut [u8]) -> Reply {
     let code = line_of(line, i, Table::Fixnum);
     if code != 0 {
         let at = put_fixnum_help(code, out);
-        return done(put_tried(b"fx 24 ", Table::Fixnum, code, code, out, at));
+        return done(put_tried(b"fx 24 ", Table::Fixnum, code, out, at));
     }
     let index = line_of(line, i, Table::Bitwise);
     if index != 0 {
         let at = put_bitwise_help(index, out);
-        return done(put_tried(b"bitwise ", Table::Bitwise, index, likeness(index), out, at));
+        return done(put_tried(b"bitwise ", Table::Bitwise, index, out, at));
+    }
+    let index = line_of(line, i, Table::Flonum);
+    if index != 0 {
+        let at = put_flonum_help(index, out);
+        return done(put_tried(b"fl ", Table::Flonum, index, out, at));
     }
     trouble(line, i, Expected::Topic, out)
 }

@@ -4,6 +4,7 @@ mod ops;
 
 use about::reply_about;
 use about::reply_help;
+use flcalls::reply_fl;
 use foldcalls::join::reply_join;
 use fxcalls::fx::reply_fx;
 use fxcalls::list::reply_list;
@@ -75,19 +76,20 @@ pub fn task_of(line: &[u8]) -> Task {
     Task::Words
 }
 
-// `fold`, which is 6 among the commands, always reads input and does not come here; `batch` comes with a word too many.
+// `fold`, which is 7 among the commands, always reads input and does not come here; `batch` comes with a word too many.
 fn reply_command(line: &[u8], out: &mut [u8]) -> Reply {
     match line_of(line, 1, Table::Commands) {
         1 => reply_fx(line, b"\n", out),
         2 => reply_widths(line, out),
         3 => reply_bitwise(line, out),
         4 => reply_trim(line, out),
-        5 => reply_list(line, out),
-        7 => reply_join(line, out),
-        8 => reply_rule(line, out),
-        9 => reply_ops(line, out),
-        10 => reply_help(line, out),
-        11 => trouble(line, 2, Expected::End, out),
+        5 => reply_fl(line, b"\n", out),
+        6 => reply_list(line, out),
+        8 => reply_join(line, out),
+        9 => reply_rule(line, out),
+        10 => reply_ops(line, out),
+        11 => reply_help(line, out),
+        12 => trouble(line, 2, Expected::End, out),
         _ => {
             if is_word(line, 1, b"--version") {
                 done(put(&VERSION, out, 0))

@@ -1,4 +1,6 @@
 // `ops`: the table of operations.
+use flcalls::counts::least;
+use flcalls::counts::most;
 use fxtable::table::CODES;
 use fxtable::table::signature_of;
 use limbcalls::rules::arity;
@@ -17,6 +19,8 @@ use output::put_if;
 use output::put_natural;
 
 const BITWISES: u64 = 17;
+
+const FLONUMS: u64 = 9;
 
 // A number below 100, in two columns.
 fn put_code(code: u64, out: &mut [u8], at: usize) -> usize {
@@ -67,6 +71,13 @@ fn put_bitwise_row(index: u64, out: &mut [u8], at: usize) -> usize {
     put_takes(Table::Bitwise, index, n, n, out, at)
 }
 
+// The row of a flonum operation, which has no code either.
+fn put_flonum_row(index: u64, out: &mut [u8], at: usize) -> usize {
+    let at = put(b"    ", out, at);
+    let at = put_padded_name(Table::Flonum, index, out, at);
+    put_takes(Table::Flonum, index, least(index), most(index), out, at)
+}
+
 fn put_fixnum_rows(out: &mut [u8], at: usize) -> usize {
     let mut filled = at;
     let mut code = 1;
@@ -87,6 +98,16 @@ fn put_bitwise_rows(out: &mut [u8], at: usize) -> usize {
     filled
 }
 
+fn put_flonum_rows(out: &mut [u8], at: usize) -> usize {
+    let mut filled = at;
+    let mut index = 1;
+    while index <= FLONUMS {
+        filled = put_flonum_row(index, out, filled);
+        index += 1;
+    }
+    filled
+}
+
 fn put_all(out: &mut [u8]) -> usize {
     let at = put(
         b"operations of ql fx and ql widths: code, name, how many arguments, and which\n",
@@ -95,7 +116,9 @@ fn put_all(out: &mut [u8]) -> usize {
     );
     let at = put_fixnum_rows(out, at);
     let at = put(b"operations of ql bitwise\n", out, at);
-    put_bitwise_rows(out, at)
+    let at = put_bitwise_rows(out, at);
+    let at = put(b"operations of ql fl\n", out, at);
+    put_flonum_rows(out, at)
 }
 
 // The row of one operation, or all.
@@ -114,6 +137,10 @@ pub fn reply_ops(line: &[u8], out: &mut [u8]) -> Reply {
     let index = line_of(line, 2, Table::Bitwise);
     if index != 0 {
         return done(put_bitwise_row(index, out, 0));
+    }
+    let index = line_of(line, 2, Table::Flonum);
+    if index != 0 {
+        return done(put_flonum_row(index, out, 0));
     }
     trouble(line, 2, Expected::Topic, out)
 }

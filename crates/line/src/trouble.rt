@@ -18,6 +18,9 @@ pub enum Expected {
     Integer,
     IntegerOfFewDigits,
     Limb,
+    FlonumOperation,
+    Flonum,
+    FlonumOfFewDigits,
     ListCall,
     Length,
     RuleCommand,
@@ -30,7 +33,7 @@ pub enum Expected {
 fn put_expected(expected: Expected, out: &mut [u8], at: usize) -> usize {
     match expected {
         Expected::Command => put(
-            b"fx, widths, bitwise, trim, list, fold, join, rule, batch, ops or help",
+            b"fx, widths, bitwise, trim, fl, list, fold, join, rule, batch, ops or help",
             out,
             at,
         ),
@@ -62,6 +65,21 @@ fn put_expected(expected: Expected, out: &mut [u8], at: usize) -> usize {
             at,
         ),
         Expected::Limb => put(b"a limb from 0 to 0xffffffff", out, at),
+        Expected::FlonumOperation => put(
+            b"a flonum operation, such as flfloor (ql ops lists them),",
+            out,
+            at,
+        ),
+        Expected::Flonum => put(
+            b"a number, such as 2.5, -1e-5, 0x1.8p+1, inf or nan,",
+            out,
+            at,
+        ),
+        Expected::FlonumOfFewDigits => put(
+            b"a number of at most 1500 digits, with an exponent from -1500 to 1500,",
+            out,
+            at,
+        ),
         Expected::ListCall => put(b"rev, or rot: and a count, such as rot:3,", out, at),
         Expected::Length => put(b"a length from 0 to 2^63 - 1", out, at),
         Expected::RuleCommand => put(b"read, run or widths", out, at),
@@ -71,7 +89,7 @@ fn put_expected(expected: Expected, out: &mut [u8], at: usize) -> usize {
             at,
         ),
         Expected::EvenDigits => put(b"an even number of hexadecimal digits", out, at),
-        Expected::LineCommand => put(b"fx or bitwise", out, at),
+        Expected::LineCommand => put(b"fx, bitwise or fl", out, at),
         Expected::End => put(b"no further word", out, at),
     }
 }

@@ -1,4 +1,5 @@
 // The long texts of `help`: what the command, each of its commands and each operation do, and an example of each operation.
+use names::Table;
 use names::put_line;
 use output::put;
 
@@ -51,6 +52,19 @@ x with its bits from start up to, but not at, end rotated by count towards the h
 x with its bits from start up to, but not at, end in reverse order"
 }
 
+// What the flonum operations are, in the order of their names.
+fn flonum_meanings() -> [u8; 405] {
+    *b"the flonum nearest to the fixnum n; of two that are as near, the one whose last bit is 0
+x rounded down to a whole number
+x rounded up to a whole number
+x rounded toward zero to a whole number
+the whole number nearest to x; of two that are as near, the even one
+x without its sign
+whether x is a NaN
+whether x is neither a NaN nor an infinity
+the smallest and the largest argument; of equal ones the first"
+}
+
 // Arguments for each that make a short example.
 fn number_samples() -> [u8; 145] {
     *b"3 3 3
@@ -100,15 +114,29 @@ fn bit_samples() -> [u8; 117] {
 0x1234 4 12"
 }
 
+// The same for the flonum operations.
+fn flonum_samples() -> [u8; 51] {
+    *b"24 -7
+-2.5
+-2.5
+-2.5
+-2.5
+-2.5
+nan
+inf
+0.5 -0.0 0.0"
+}
+
 // A long text is put in parts, which are proved in less time than the whole.
 pub fn put_usage(out: &mut [u8]) -> usize {
     let at = put(
-        b"ql: the fixnum and bitwise operations of R6RS, proved
+        b"ql: the fixnum, bitwise and some flonum operations of R6RS, proved
 
   ql fx WIDTH OP ARG..                    a fixnum operation at a width
   ql widths OP ARG..                      the same at every width, and which widths agree
   ql bitwise OP ARG..                     a bitwise operation on integers of up to 1024 limbs of 32 bits
   ql trim LIMB..                          limbs of 32 bits, the least significant first, without padding, and their integer
+  ql fl OP ARG..                          a flonum operation on numbers of 64 bits
   ql list WIDTH START END NUMBER CALL..   calls rot:COUNT and rev on one field, and the one rotation they equal
   ql fold WIDTH START END COUNT [ACCUMULATOR] [FILE..]
                                           an identifier of the bytes of standard input, or of each file
@@ -119,7 +147,7 @@ pub fn put_usage(out: &mut [u8]) -> usize {
   ql rule read RULE                       the width and the form of a stored rule, or where it offends
   ql rule run RULE INPUT..                a stored rule run
   ql rule widths RULE INPUT..             the same at every width, and which widths agree
-  ql batch                                calls of fx and bitwise, a line each, from standard input
+  ql batch                                calls of fx, bitwise and fl, a line each, from standard input
   ql ops [OP]                             the operations: codes, names, arguments
   ql help [WORD]                          this, or what a command or an operation does
   ql --version
@@ -204,6 +232,33 @@ number of them is refused, with the number 7.
     )
 }
 
+fn put_fl_help(out: &mut [u8]) -> usize {
+    let at = put(
+        b"ql fl fixnum->flonum WIDTH N
+ql fl flfloor X
+ql fl flceiling X
+ql fl fltruncate X
+ql fl flround X
+ql fl flabs X
+ql fl flnan? X
+ql fl flfinite? X
+ql fl flextremes X [Y [Z [W]]]
+One flonum operation of R6RS on IEEE numbers of 64 bits, or the smallest and the largest of one to four, on two lines. A flonum is written
+in decimal, as 2.5, -1e-5, .5 or 1., or in hexadecimal as C prints it by %a, as 0x1.8p+1; or inf or nan, with a sign or none. +inf.0,
+",
+        out,
+        0,
+    );
+    put(
+        b"-inf.0 and +nan.0 are read too. It is printed in decimal, as C does by %a, and as bits. A question is answered by 1 or 0. WIDTH and N
+are integers: a width that is not from 24 to 64 is refused, with the number 1, and an N that is no fixnum at it with 4. flextremes is refused
+with 3, unless it has one to four flonums.
+",
+        out,
+        at,
+    )
+}
+
 fn put_list_help(out: &mut [u8]) -> usize {
     put(
         b"ql list WIDTH START END NUMBER CALL..
@@ -278,8 +333,8 @@ The operations: code, name, how many arguments, and which.
 fn put_batch_help(out: &mut [u8]) -> usize {
     put(
         b"ql batch
-Reads calls from standard input, a line each, such as 'fx 24 fxand 12 10' or 'bitwise bitwise-not 5', and answers a line for each, in
-order. A line that cannot be read is answered by the reason. An empty line is answered by an empty one. The exit status is 2 where
+Reads calls from standard input, a line each, such as 'fx 24 fxand 12 10', 'bitwise bitwise-not 5' or 'fl flabs -1', and answers a line for
+each, in order. A line that cannot be read is answered by the reason. An empty line is answered by an empty one. The exit status is 2 where
 a line cannot be read, else 1 where a call is refused, else 0.
 ",
         out,
@@ -294,12 +349,13 @@ pub fn put_command_help(command: u64, out: &mut [u8]) -> usize {
         2 => put_widths_help(out),
         3 => put_bitwise_help(out),
         4 => put_trim_help(out),
-        5 => put_list_help(out),
-        6 => put_fold_help(out),
-        7 => put_join_help(out),
-        8 => put_rule_help(out),
-        9 => put_ops_help(out),
-        10 => put_usage(out),
+        5 => put_fl_help(out),
+        6 => put_list_help(out),
+        7 => put_fold_help(out),
+        8 => put_join_help(out),
+        9 => put_rule_help(out),
+        10 => put_ops_help(out),
+        11 => put_usage(out),
         _ => put_batch_help(out),
     }
 }
@@ -313,12 +369,22 @@ fn put_either(numbers: &[u8], bits: &[u8], code: u64, out: &mut [u8], at: usize)
     }
 }
 
-// What a fixnum operation does.
-pub fn put_meaning(code: u64, out: &mut [u8], at: usize) -> usize {
-    put_either(&number_meanings(), &bit_meanings(), code, out, at)
+// What an operation does, by its line in its list.
+pub fn put_meaning(table: Table, number: u64, out: &mut [u8], at: usize) -> usize {
+    match table {
+        Table::Fixnum => put_either(&number_meanings(), &bit_meanings(), number, out, at),
+        Table::Bitwise => put_line(&bit_meanings(), number, out, at),
+        Table::Flonum => put_line(&flonum_meanings(), number, out, at),
+        Table::Commands => at,
+    }
 }
 
-// Arguments of a fixnum operation that make a short example.
-pub fn put_sample(code: u64, out: &mut [u8], at: usize) -> usize {
-    put_either(&number_samples(), &bit_samples(), code, out, at)
+// Arguments of an operation that make a short example.
+pub fn put_sample(table: Table, number: u64, out: &mut [u8], at: usize) -> usize {
+    match table {
+        Table::Fixnum => put_either(&number_samples(), &bit_samples(), number, out, at),
+        Table::Bitwise => put_line(&bit_samples(), number, out, at),
+        Table::Flonum => put_line(&flonum_samples(), number, out, at),
+        Table::Commands => at,
+    }
 }

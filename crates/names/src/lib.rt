@@ -6,11 +6,12 @@ use check::same;
 use output::put;
 
 // The commands.
-fn command_lines() -> [u8; 57] {
+fn command_lines() -> [u8; 60] {
     *b"fx
 widths
 bitwise
 trim
+fl
 list
 fold
 join
@@ -86,6 +87,19 @@ bitwise-rotate-bit-field x start end count
 bitwise-reverse-bit-field x start end"
 }
 
+// The flonum operations have no codes either.
+fn flonum_lines() -> [u8; 112] {
+    *b"fixnum->flonum width n
+flfloor x
+flceiling x
+fltruncate x
+flround x
+flabs x
+flnan? x
+flfinite? x
+flextremes x .."
+}
+
 // A line of a table, counted from 1: where it begins, where its name ends and where it ends. Line 0 where there is none.
 struct Line {
     number: u64,
@@ -131,6 +145,7 @@ pub enum Table {
     Commands,
     Fixnum,
     Bitwise,
+    Flonum,
 }
 
 // The number of a name in its list, or 0.
@@ -139,6 +154,7 @@ pub fn number_of(table: Table, name: &[u8]) -> u64 {
         Table::Commands => find(&command_lines(), 0, name).number,
         Table::Fixnum => find(&fixnum_lines(), 0, name).number,
         Table::Bitwise => find(&bitwise_lines(), 0, name).number,
+        Table::Flonum => find(&flonum_lines(), 0, name).number,
     }
 }
 
@@ -166,6 +182,7 @@ fn put_of(table: Table, number: u64, part: Part, out: &mut [u8], at: usize) -> u
         Table::Commands => put_part(&command_lines(), number, part, out, at),
         Table::Fixnum => put_part(&fixnum_lines(), number, part, out, at),
         Table::Bitwise => put_part(&bitwise_lines(), number, part, out, at),
+        Table::Flonum => put_part(&flonum_lines(), number, part, out, at),
     }
 }
 

@@ -1,4 +1,4 @@
-// The C library: the fixnum calls, the limb calls, the conversions, the fold and stored rules under plain C names, with the contract of each.
+// The C library: the fixnum calls, the limb calls, the conversions, the fold, stored rules and the flonum calls under plain C names, with the contract of each.
 // include/quebralua.h is the header. In C a slice is a pointer and a length.
 ghost use mathlib.Core.Path.{_≡_};
 ghost use mathlib.Core.Bool.{_&&_, _||_, xor};
@@ -9,6 +9,7 @@ ghost use Rattle.limbstages.specs.Buffer.{Writes};
 ghost use Rattle.outcomes.specs.Number.{number};
 ghost use Rattle.limbs.specs.Operations.{notOutcome, bitwiseOutcome, ifOutcome, copyBitOutcome, bitFieldOutcome, copyBitFieldOutcome, shiftOutcome, shiftLeftOutcome, shiftRightOutcome, rotateOutcome, reverseOutcome, bitCountOutcome, lengthOutcome, firstBitSetOutcome, bitSetOutcome, trimOutcome};
 
+pub mod flonums;
 pub mod folds;
 pub mod stored_rules;
 

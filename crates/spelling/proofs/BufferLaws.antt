@@ -18,7 +18,7 @@ use Rattle.outcomes.proofs.OutcomeLaws.{passed, failed}
 use Rattle.limbwords.specs.Value.{value, limbsOf}
 use Rattle.limbwords.proofs.LimbLaws.{sign-last}
 use Rattle.spelling.specs.Spellings.{digits, hexLength, spelled, hasCapacity, spelling, Spells}
-use Rattle.spelling.specs.Inner.{natural}
+use Rattle.text.specs.Naturals.{natural}
 use Rattle.spelling.proofs.NaturalLaws.{natural-nonnegative, natural-negative}
 use Rattle.spelling.proofs.DigitLaws.{length-digits}
 

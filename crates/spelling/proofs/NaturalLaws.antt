@@ -18,7 +18,8 @@ use Rattle.bits.proofs.LengthLaws.{mag-lt}
 use Rattle.words.proofs.SignedLaws.{withSign-not}
 use Rattle.limbwords.specs.Value.{value, limbsOf}
 use Rattle.limbwords.proofs.ValueLaws.{value-length, limbsOf-value}
-use Rattle.spelling.specs.Inner.{natural}
+use Rattle.text.specs.Naturals.{natural}
+use Rattle.text.proofs.NaturalLaws.{natural-lt}
 use Rattle.text.proofs.NumeralLaws.{pow-hex}
 use Rattle.text.proofs.ReadingLimbs.{signed-absolute}
 
@@ -59,17 +60,10 @@ natural-digit xs i b h =
 
 -- ---- size
 
-natural-lt-pow : (xs : List ℕ) → ((j : ℕ) → getD xs j 0 < 2 ^ 32) → natural xs < 2 ^ (32 * length xs)
-unfolding natural
-natural-lt-pow [] b = pow-pos 0
-natural-lt-pow (n ∷ ns) b =
-    let at : 32 * suc (length ns) ≡ 32 * length ns + 32 = omega arith in
-    omega (arith, b 0, natural-lt-pow ns (λ i. b (suc i)), ap (λ (k : ℕ). 2 ^ k) at ∙ pow-add 2 (32 * length ns) 32)
-
-pub natural-lt : (xs : List ℕ) → ((j : ℕ) → getD xs j 0 < 2 ^ 32) → natural xs < 16 ^ (8 * length xs)
-natural-lt xs b =
+pub natural-lt-hex : (xs : List ℕ) → ((j : ℕ) → getD xs j 0 < 2 ^ 32) → natural xs < 16 ^ (8 * length xs)
+natural-lt-hex xs b =
     let at : 32 * length xs ≡ 4 * (8 * length xs) = omega arith in
-    subst (λ (m : ℕ). natural xs < m) (ap (λ (k : ℕ). 2 ^ k) at ∙ sym (pow-hex (8 * length xs))) (natural-lt-pow xs b)
+    subst (λ (m : ℕ). natural xs < m) (ap (λ (k : ℕ). 2 ^ k) at ∙ sym (pow-hex (8 * length xs))) (natural-lt xs b)
 
 -- ---- the limbs of a number
 

@@ -1,2 +1,1 @@
 pub mod Spellings
-pub mod Inner

@@ -5,11 +5,11 @@ ghost use Prim.Native.Nat.{_<_, _≤_, _+_, _*_, _/_, _%_, _^_};
 ghost use lib.ListN.{length, drop};
 ghost use Rattle.spelling.specs.Spellings as spellings;
 ghost use Rattle.spelling.specs.Spellings.{digits, hexLength, Spells};
-ghost use Rattle.spelling.specs.Inner.{natural};
+ghost use Rattle.text.specs.Naturals.{natural};
 use text::negate::negate;
 
 // The byte of a digit.
-fn glyph(d: u64) -> u8
+pub fn glyph(d: u64) -> u8
     requires { ⌜ d < 16 ⌝ }
     ensures { λ r. ⌜ r ≡ spellings.glyph d ⌝ }
 {

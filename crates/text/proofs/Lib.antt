@@ -1,5 +1,6 @@
 pub mod Cases
 pub mod NumeralLaws
+pub mod NaturalLaws
 pub mod NumeralLimbs
 pub mod ReadingParts
 pub mod ReadingLaws

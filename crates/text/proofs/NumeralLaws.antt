@@ -91,7 +91,7 @@ digit-at b cs i e h =
 
 -- ---- their number
 
-numeralFrom-append : (b n : ℕ) (xs ys : List ℕ) → numeralFrom b n (xs ++ ys) ≡ numeralFrom b (numeralFrom b n xs) ys
+pub numeralFrom-append : (b n : ℕ) (xs ys : List ℕ) → numeralFrom b n (xs ++ ys) ≡ numeralFrom b (numeralFrom b n xs) ys
 unfolding numeralFrom
 numeralFrom-append b n [] ys = refl
 numeralFrom-append b n (c ∷ xs) ys = numeralFrom-append b (n * b + digit c) xs ys

@@ -1,3 +1,4 @@
 pub mod Numerals
+pub mod Naturals
 pub mod Readings
 pub mod Inner

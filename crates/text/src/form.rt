@@ -14,7 +14,7 @@ pub struct Parts {
 }
 
 // A byte of the text, or 0 after its end.
-fn byte_at(text: &[u8], i: usize) -> u8
+pub fn byte_at(text: &[u8], i: usize) -> u8
     ensures { λ r. ⌜ r ≡ byteAt (now (text .entry)) i ⌝ }
 {
     if i < text.len() { text[i] } else { 0 }

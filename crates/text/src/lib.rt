@@ -5,8 +5,10 @@ mod long;
 pub mod negate;
 mod word;
 
+pub use form::byte_at;
 pub use long::read_limbs;
 pub use word::read_word;
+pub use word::sum_digits;
 
 // What a text is as one signed 64-bit word.
 pub enum Reading {

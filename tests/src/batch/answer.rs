@@ -5,6 +5,7 @@
 
 use super::expected::Expected::{self, *};
 use super::expected::LONGEST_LINE;
+use super::flonum::answer::flonum_call;
 use super::form::Form;
 use super::reason::Reason;
 use super::{reader, text};
@@ -17,14 +18,20 @@ pub fn expected(line: &str) -> Expected {
     if line.len() > LONGEST_LINE {
         return TooLong;
     }
-    let words: Vec<&str> = line.split([' ', '\t']).filter(|word| !word.is_empty()).collect();
+    let words = words(line);
     let answer = match words.first() {
         None => Ok(Empty),
         Some(&"fx") => fixnum_call(&words),
         Some(&"bitwise") => bitwise_call(&words),
+        Some(&"fl") => flonum_call(&words),
         Some(_) => Err(bad(&words, 0)),
     };
     answer.unwrap_or_else(|trouble| trouble)
+}
+
+/// What stands between blanks.
+pub fn words(line: &str) -> Vec<&str> {
+    line.split([' ', '\t']).filter(|word| !word.is_empty()).collect()
 }
 
 /// All words are read, from the left, before the call is made.
@@ -32,7 +39,7 @@ fn fixnum_call(words: &[&str]) -> Result<Expected, Expected> {
     let width = read(words, 1, reader::unsigned)?;
     let form = read(words, 2, |word| Form::fixnum_name(word).or_else(|| reader::unsigned(word).map(Form::Code)))?;
     let numbers: Vec<i64> = (3..words.len()).map(|i| read(words, i, reader::number)).collect::<Result<_, _>>()?;
-    let (Form::Name(code) | Form::Code(code)) = form else { unreachable!("no bitwise operation has been read") };
+    let (Form::Name(code) | Form::Code(code)) = form else { unreachable!("a fixnum operation has been read") };
     let mut args = [0; 4];
     args.iter_mut().zip(&numbers).for_each(|(arg, &n)| *arg = n);
     let Answer { refusal, first, second, place } = fixnum(width, code, args, numbers.len() as u64);
@@ -72,12 +79,12 @@ fn bitwise_call(words: &[&str]) -> Result<Expected, Expected> {
 }
 
 /// What the word in that place says, places counted from 0.
-fn read<T>(words: &[&str], place: usize, reader: impl Fn(&str) -> Option<T>) -> Result<T, Expected> {
+pub fn read<T>(words: &[&str], place: usize, reader: impl Fn(&str) -> Option<T>) -> Result<T, Expected> {
     let word = words.get(place).ok_or(Missing(place + 1))?;
     reader(word).ok_or_else(|| bad(words, place))
 }
 
-fn bad(words: &[&str], place: usize) -> Expected {
+pub fn bad(words: &[&str], place: usize) -> Expected {
     Unreadable(place + 1, words[place].to_string())
 }
 

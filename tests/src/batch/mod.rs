@@ -8,9 +8,11 @@
 //! - `expected`: such an answer, and how an answer line is compared with it
 //! - `reason`: how the reason of a refusal begins
 //! - `form`: the operations as a line can name them
+//! - `flonum`: all of this for the lines of `fl`
 
 pub mod answer;
 pub mod expected;
+pub mod flonum;
 pub mod form;
 pub mod lines;
 pub mod numeral;

@@ -35,7 +35,7 @@ fn compare(lines: &[String], answers: &[u8], tally: &mut Tally) -> Result<i32, S
             return Err(format!("DIFFERENCE in line {}\n{line}\nexpected: {expected}\ngot:      {got}", i + 1));
         }
         status = status.max(expected.status());
-        tally.line(&expected);
+        tally.line(line, &expected);
     }
     match rest.next() {
         None => Ok(status),

@@ -2,6 +2,7 @@
 //! Ends with status 1 at the first difference, and where some operation or kind of answer was never seen.
 
 mod compare;
+mod flonum_tally;
 mod options;
 mod process;
 mod statuses;

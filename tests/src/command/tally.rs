@@ -1,5 +1,6 @@
 //! How many lines were compared, and how they were answered.
 
+use crate::flonum_tally::FlonumTally;
 use quebralua_reference::batch::expected::Expected;
 use quebralua_reference::batch::form::Form;
 use quebralua_reference::batch::reason::{role, Reason};
@@ -11,6 +12,8 @@ use std::fmt;
 const REFUSALS: std::ops::RangeInclusive<usize> = 1..=7;
 /// The word of the last of five arguments of `fx`.
 const LAST_WORD: usize = 8;
+/// The integer of fixnum->flonum.
+const LAST_MISSING: usize = 4;
 
 pub struct Tally {
     empty: u64,
@@ -21,8 +24,10 @@ pub struct Tally {
     arguments: BTreeMap<String, u64>,
     /// By the number of the word.
     unreadable: [u64; LAST_WORD + 1],
-    missing: [u64; 4],
+    missing: [u64; LAST_MISSING + 1],
     too_long: u64,
+    /// The lines of `fl` once more.
+    flonums: FlonumTally,
     /// Runs by exit status.
     statuses: [u64; 3],
 }
@@ -35,13 +40,15 @@ impl Tally {
             refused: [0; 9],
             arguments: arguments().map(|name| (name, 0)).collect(),
             unreadable: [0; LAST_WORD + 1],
-            missing: [0; 4],
+            missing: [0; LAST_MISSING + 1],
             too_long: 0,
+            flonums: FlonumTally::new(),
             statuses: [0; 3],
         }
     }
 
-    pub fn line(&mut self, answer: &Expected) {
+    pub fn line(&mut self, line: &str, answer: &Expected) {
+        self.flonums.line(line, answer);
         if let Expected::Refused(_, Reason::Argument { place, role, .. }) = answer {
             *self.arguments.entry(argument(*place, *role)).or_default() += 1;
         }
@@ -71,12 +78,12 @@ impl Tally {
         let refused = REFUSALS.map(|number| (format!("refused {number}"), self.refused[number]));
         let arguments = self.arguments.iter().map(|(name, count)| (format!("refused for argument {name}"), *count));
         let unreadable = (1..=LAST_WORD).map(|word| (format!("word {word} unreadable"), self.unreadable[word]));
-        let missing = (2..=3).map(|word| (format!("word {word} missing"), self.missing[word]));
+        let missing = (2..=LAST_MISSING).map(|word| (format!("word {word} missing"), self.missing[word]));
         let statuses = (0..=2).map(|status| (format!("exit status {status}"), self.statuses[status]));
         let others = [("an empty line", self.empty), ("a line that is too long", self.too_long)];
         let others = others.map(|(name, count)| (name.to_string(), count));
         let all = done.chain(refused).chain(arguments).chain(unreadable).chain(missing).chain(statuses).chain(others);
-        all.filter(|(_, count)| *count == 0).map(|(name, _)| name).collect()
+        all.filter(|(_, count)| *count == 0).map(|(name, _)| name).chain(self.flonums.missing()).collect()
     }
 }
 
@@ -106,6 +113,7 @@ impl fmt::Display for Tally {
         write!(f, "\nunreadable {unreadable}, by word:")?;
         (1..=LAST_WORD).try_for_each(|word| write!(f, " {word}: {}", self.unreadable[word]))?;
         write!(f, "\na word missing {missing}\nruns by exit status:")?;
-        (0..=2).try_for_each(|status| write!(f, " {status}: {}", self.statuses[status]))
+        (0..=2).try_for_each(|status| write!(f, " {status}: {}", self.statuses[status]))?;
+        write!(f, "\n{}", self.flonums)
     }
 }

@@ -5,6 +5,10 @@ mod fixnum;
 mod fixnum_carries;
 mod fixnum_fields;
 mod fixnum_places;
+mod flonum_binding;
+mod flonum_extremes;
+mod flonum_fixnums;
+mod flonum_values;
 mod fold_binding;
 mod fold_chunks;
 mod fold_fields;
@@ -75,4 +79,11 @@ pub fn rules(checker: &mut Checker) {
     rule_inputs::run(checker);
     rule_order::run(checker);
     rule_pointers::run(checker);
+}
+
+pub fn flonums(checker: &mut Checker) {
+    flonum_binding::run();
+    flonum_values::run(checker);
+    flonum_fixnums::run(checker);
+    flonum_extremes::run(checker);
 }

@@ -1,6 +1,7 @@
 //! Random arguments, legal and not, most of them near a limit.
 
 pub mod fixnum;
+pub mod flonum;
 pub mod fold;
 pub mod limbs;
 pub mod rule;

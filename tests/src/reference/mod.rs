@@ -10,12 +10,14 @@
 //! - `output`: what a result does to the output buffer
 //! - `lists`: the net count of a list of rotate and reverse calls
 //! - `fold`: a running fold over bytes, on the fixnum calls
+//! - `flonum`: the flonum calls, on bits
 //! - `rule`: stored rules: read, written, and evaluated by the fixnum calls
 //! - `wider`: how the answers to one fixnum call at two widths agree
 
 pub mod conversion;
 pub mod fixnum;
 mod fixnum_results;
+pub mod flonum;
 pub mod fold;
 pub mod integer;
 pub mod limb_results;

@@ -3,8 +3,8 @@ use Prim.Native.Nat.{_*_, _≤_}
 use native.Mathlib.Omega.{arith}
 use mathlib.Core.Path.{sym, _∙_}
 use lib.ListN.{length}
-use Rattle.spelling.specs.Inner.{natural}
-use Rattle.spelling.proofs.NaturalLaws.{natural-lt}
+use Rattle.text.specs.Naturals.{natural}
+use Rattle.spelling.proofs.NaturalLaws.{natural-lt-hex}
 use Rattle.spelling.proofs.DigitLaws.{Below, below-less, below-settled, below-one}
 use Rattle.spelling.proofs.hex_length.Statement.{statement}
 use Rattle.spelling.proofs.hex_length.Tie as tie
@@ -16,7 +16,7 @@ abbrev μ-loop : tie.MeasureT-loop
 μ-loop x k₀ k = k
 
 loop-holds : tie.Need-loop-holds Inv-loop μ-loop
-loop-holds c = (omega arith, record { some = omega arith; below = natural-lt _ (λ j. c .shared-slice-known .given j .fits) })
+loop-holds c = (omega arith, record { some = omega arith; below = natural-lt-hex _ (λ j. c .shared-slice-known .given j .fits) })
 
 returns : tie.Need-returns Inv-loop μ-loop
 returns c = (below-settled (c .before .before .before .loop .inv .1) (λ e. c .if1 .taken (c .before .nibble .ensures ∙ e)), omega arith)

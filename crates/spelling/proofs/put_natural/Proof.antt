@@ -5,7 +5,7 @@ use mathlib.Core.Path.{ap, _∙_}
 use mathlib.Core.List.{[], _∷_, _++_}
 use lib.ListN.{drop, length-set}
 use Rattle.spelling.specs.Spellings.{digits}
-use Rattle.spelling.specs.Inner.{natural}
+use Rattle.text.specs.Naturals.{natural}
 use Rattle.spelling.proofs.BufferLaws.{part-length, part-back}
 use borrow.Author.Needs.{needs}
 use Rattle.spelling.proofs.put_natural.Statement.{statement}

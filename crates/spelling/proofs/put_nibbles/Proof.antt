@@ -3,7 +3,7 @@ use Prim.Native.Nat.{_-_}
 use native.Mathlib.Omega.{arith}
 use mathlib.Core.Path.{ap, _∙_}
 use Rattle.spelling.specs.Spellings.{glyph}
-use Rattle.spelling.specs.Inner.{natural}
+use Rattle.text.specs.Naturals.{natural}
 use Rattle.spelling.proofs.DigitLaws.{Put, put-none, put-more, put-all}
 use Rattle.spelling.proofs.put_nibbles.Statement.{statement}
 use Rattle.spelling.proofs.put_nibbles.Tie as tie

@@ -2,6 +2,7 @@
 
 mod bitwise;
 mod fixnum;
+mod flonum;
 mod spoiled;
 
 use super::expected::LONGEST_LINE;
@@ -12,7 +13,12 @@ pub fn line(random: &mut Random) -> String {
     if random.one_in(100) {
         return random.choose(&["", "", " ", "\t", " \t  "]).to_string();
     }
-    let mut words = if random.one_in(2) { fixnum::words(random) } else { bitwise::words(random) };
+    // The command takes more time for a line of `fl` than for another.
+    let mut words = match random.below(64) {
+        0 | 1 => flonum::words(random),
+        2..=32 => fixnum::words(random),
+        _ => bitwise::words(random),
+    };
     if random.one_in(12) {
         spoiled::spoil(random, &mut words);
     }

@@ -42,7 +42,7 @@ const WORDS: [&str; 36] = [
     "bitwise-and?",
 ];
 /// Characters that numbers and names are made of, and some that they are not.
-const CHARACTERS: &[u8] = b"0123456789abcdefABCDEFxXoOdD#+-?*=<>/.,_g";
+const CHARACTERS: &[u8] = b"0123456789abcdefABCDEFxXoOdDpPin#+-?*=<>/.,_g";
 
 /// Replaces words, changes a character, or takes words away. The line may still be readable.
 pub fn spoil(random: &mut Random, words: &mut Vec<String>) {

@@ -4,6 +4,7 @@ mod agreement;
 mod carries;
 mod cases;
 mod exactness;
+mod flonums;
 mod fold_laws;
 mod folds;
 mod forms;

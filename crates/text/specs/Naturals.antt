@@ -1,5 +1,5 @@
--- What the functions inside `spelling` promise each other. No public call's contract cites this.
---   natural xs  ==  the number that limbs are without a sign
+-- Limbs of 32 bits without a sign, the least significant first. Numbers are read and written through them.
+--   natural xs  ==  the number that they are
 use Prim.Native.Nat.{ℕ, _+_, _*_, _^_}
 use mathlib.Core.List.{List, [], _∷_}
 

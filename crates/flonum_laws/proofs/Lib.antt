@@ -1,0 +1,9 @@
+pub mod Multiples
+pub mod Grid
+pub mod EvenBits
+pub mod Distances
+pub mod Nearness
+pub mod FloorLaws
+pub mod Roundings
+pub mod OrderLaws
+pub mod Extremes

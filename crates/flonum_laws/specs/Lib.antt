@@ -1,0 +1,4 @@
+pub mod Quotients
+pub mod Nearness
+pub mod Roundings
+pub mod Extremes

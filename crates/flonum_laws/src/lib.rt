@@ -1,0 +1,1 @@
+// No functions: this crate states what holds of whole flonum calls (specs/) and proves it (proofs/).

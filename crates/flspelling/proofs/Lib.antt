@@ -1,0 +1,4 @@
+pub mod Cases
+pub mod PutsLaws
+pub mod FractionLaws
+pub mod SpellsLaws

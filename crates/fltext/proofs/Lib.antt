@@ -1,0 +1,9 @@
+pub mod Cases
+pub mod RoundLaws
+pub mod LimbLaws
+pub mod ScaleLaws
+pub mod HalvingLaws
+pub mod NumberLaws
+pub mod FormLaws
+pub mod ExponentLaws
+pub mod ReadingLaws
