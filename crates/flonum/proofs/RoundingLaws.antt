@@ -14,7 +14,7 @@ use lib.Ieee.Back.{round-whole, whole-unique}
 use lib.Ieee.Positive.{num, den, den-pos, positive-of-value, mul-at}
 use Rattle.flonum.specs.declared.rounding.Rounding.{Rounding}
 use Rattle.flonum.specs.Rounding.{magnitude, rounded, Small}
-use Rattle.flonum.proofs.Values.{lt-values, parts, whole-lt}
+use Rattle.flonum.proofs.Values.{lt-values, parts, whole-lt, few-of, under-of}
 use Rattle.flonum.proofs.Magnitudes.{magnitude-le, magnitude-whole}
 
 -- ---- whole numbers as flonums
@@ -71,13 +71,7 @@ nothing d u D h = omega (arith, zero-mul u)
 no-fraction : (s : Bool) (m k : ℕ) → T (fits binary64 (fin s m (negsuc k))) → 2 ^ 52 * 2 ^ suc k ≤ m * 1 → ⊥
 unfolding fits
 no-fraction s zero k h l = nothing (2 ^ suc k) 1 (pow-pos (suc k)) l
-no-fraction s (suc m) k h l =
-    let A = eqb (suc m % 2) 1 in
-    let B = ltb (suc m) (2 ^ 53) in
-    let C = leb (2 ^ suc k) (2 ^ 1074) in
-    let D = ltb (suc m * 1) (2 ^ 1024 * 2 ^ suc k) in
-    let b : suc m < 2 ^ 53 = ltb→lt (suc m) (2 ^ 53) (and-r A B (and-l (A && B) C (and-l (A && B && C) D h))) in
-    too-few (suc m) (2 ^ k) (pow-pos k) b (subst (λ (x : ℕ). 2 ^ 52 * x ≤ suc m * 1) (pow-succ' 2 k) l)
+no-fraction s (suc m) k h l = too-few (suc m) (2 ^ k) (pow-pos k) (few-of (suc m) (negsuc k) h) (subst (λ (x : ℕ). 2 ^ 52 * x ≤ suc m * 1) (pow-succ' 2 k) l)
 
 -- from 2 ^ 52 on a flonum is a whole number
 large-exact : (way : Rounding) (s : Bool) (m : ℕ) (e : ℤ) → T (fits binary64 (fin s m e)) → 2 ^ 52 * down e ≤ m * up e → HasValue (round binary64 s (magnitude way s (m * up e) (down e)) 1) s (magnitude way s (m * up e) (down e)) 1
@@ -86,15 +80,9 @@ large-exact way s zero e h l = absurd (nothing (down e) (up e) (down-pos e) l)
 large-exact way s (suc m) (negsuc k) h l = absurd (no-fraction s (suc m) k h l)
 large-exact way s (suc m) (pos k) h l =
     let n = suc m * 2 ^ k in
-    let A = eqb (suc m % 2) 1 in
-    let B = ltb (suc m) (2 ^ 53) in
-    let C = leb 1 (2 ^ 1074) in
-    let D = ltb (suc m * 2 ^ k) (2 ^ 1024 * 1) in
-    let b : suc m < 2 ^ 53 = ltb→lt (suc m) (2 ^ 53) (and-r A B (and-l (A && B) C (and-l (A && B && C) D h))) in
-    let d : n < 2 ^ 1024 = ltb→lt n (2 ^ 1024) (and-r (A && B && C) D h) in
     let shifted : suc m * 2 ^ (k + 1074) ≡ n * 2 ^ 1074 = ap (λ (x : ℕ). suc m * x) (pow-add 2 k 1074) ∙ sym (mul-assoc (suc m) (2 ^ k) (2 ^ 1074)) in
     subst (λ (x : ℕ). HasValue (round binary64 s x 1) s x 1) (sym (ap (λ (x : ℕ). magnitude way s x 1) (sym (mul-one n)) ∙ magnitude-whole way s n 1 (lit< tt)))
-    (round-exact binary64 s n 1 (suc m) (k + 1074) (lit< tt) b (subst (λ (x : ℕ). x < 2 ^ (1074 + 1024)) (sym shifted) (shl-lt 1024 1074 d)) (sym shifted ∙ sym (mul-one (suc m * 2 ^ (k + 1074)))))
+    (round-exact binary64 s n 1 (suc m) (k + 1074) (lit< tt) (few-of (suc m) (pos k) h) (subst (λ (x : ℕ). x < 2 ^ (1074 + 1024)) (sym shifted) (shl-lt 1024 1074 (under-of (suc m) (pos k) h))) (sym shifted ∙ sym (mul-one (suc m * 2 ^ (k + 1074)))))
 
 pub rounded-exact : (way : Rounding) (s : Bool) (m : ℕ) (e : ℤ) → T (fits binary64 (fin s m e)) → HasValue (rounded way (fin s m e)) s (magnitude way s (m * up e) (down e)) 1
 unfolding rounded

@@ -1,14 +1,14 @@
--- Comparisons of flonums by their values, and the flonums below 2 ^ 52. Assumes nothing.
-use Prim.Native.Nat.{ℕ, _+_, _*_, _/_, _^_, _-_, _≤_, _<_, min}
+-- Comparisons of flonums by their values, the flonums below 2 ^ 52, and what a finite flonum fits in. Assumes nothing.
+use Prim.Native.Nat.{ℕ, _+_, _*_, _/_, _%_, _^_, _-_, _≤_, _<_, min}
 use native.Mathlib.Nat.{lt-of-not-le, not-le-of-lt, mul-one, div-lt-iff-lt-mul}
 use native.Mathlib.Omega.{arith}
 use mathlib.Core.Path.{_≡_, refl, sym, subst}
-use mathlib.Core.Bool.{Bool, true, false, not, true≢false}
-use lib.Dec.{T, ltb, lt→ltb, ltb→lt}
-use lib.IntN.{pos}
+use mathlib.Core.Bool.{Bool, true, false, not, _&&_, true≢false}
+use lib.Dec.{T, eqb, leb, ltb, lt→ltb, ltb→lt, leb→le}
+use lib.IntN.{ℤ, pos}
 use lib.Ieee.{Float, nan, inf, fin, up, down, lt, toUnsigned}
 use lib.Ieee.Exact.{HasValue}
-use lib.Ieee.Fits.{down-pos}
+use lib.Ieee.Fits.{down-pos, and-l, and-r}
 use lib.Ieee.Order.{transfer}
 use lib.Ieee.Positive.{num, den, den-pos}
 use Rattle.flonum.specs.Rounding.{Small}
@@ -98,3 +98,20 @@ truncated (inf true) s = absurd (s .0)
 truncated (inf false) s = absurd (s .1)
 truncated (fin true m e) s = absurd (s .0)
 truncated (fin false m e) s = uncapped (m * up e / down e) (whole-lt (fin false m e) s)
+
+-- the tests of `fits` for m > 0: an odd m, its digits, and the two ends of the exponent
+module _ (m : ℕ) (e : ℤ) (h : T (eqb (m % 2) 1 && ltb m (2 ^ 53) && leb (down e) (2 ^ 1074) && ltb (m * up e) (2 ^ 1024 * down e))) where
+  abbrev size-test : Bool
+  size-test = eqb (m % 2) 1 && ltb m (2 ^ 53)
+
+  before : T (size-test && leb (down e) (2 ^ 1074))
+  before = and-l (size-test && leb (down e) (2 ^ 1074)) (ltb (m * up e) (2 ^ 1024 * down e)) h
+
+  pub few-of : m < 2 ^ 53
+  few-of = ltb→lt m (2 ^ 53) (and-r (eqb (m % 2) 1) (ltb m (2 ^ 53)) (and-l size-test (leb (down e) (2 ^ 1074)) before))
+
+  pub fine-of : down e ≤ 2 ^ 1074
+  fine-of = leb→le (down e) (2 ^ 1074) (and-r size-test (leb (down e) (2 ^ 1074)) before)
+
+  pub under-of : m * up e < 2 ^ 1024 * down e
+  under-of = ltb→lt (m * up e) (2 ^ 1024 * down e) (and-r (size-test && leb (down e) (2 ^ 1074)) (ltb (m * up e) (2 ^ 1024 * down e)) h)

@@ -11,6 +11,7 @@ use lib.IntN.{ℤ, pos, negsuc, negℤ, natAbs, subℕ, _+ℤ_, _-ℤ_, _*ℤ_, 
 use lib.Ieee.{fin, binary64, up, down, fits}
 use lib.Ieee.Fits.{and-l, and-r}
 use Rattle.words.specs.Sign.{withSign}
+use Rattle.flonum.proofs.Values.{few-of, fine-of}
 use Rattle.flonum_laws.specs.Quotients.{numerator, negative}
 use Rattle.flonum_laws.specs.Nearness.{distance}
 use Rattle.flonum_laws.proofs.Multiples.{apart, le-or-gt}
@@ -106,20 +107,6 @@ exponent-le i j h = elim (le-or-gt i j) [ inl k ↦ k | inr k ↦ absurd (clash 
   where
     clash : (a b : ℕ) → a ≤ b → b < a → ⊥
     clash a b h k = omega arith
-
--- the tests of `fits` for m > 0: an odd m, its digits, and the two ends of the exponent
-module _ (m : ℕ) (e : ℤ) (h : T (eqb (m % 2) 1 && ltb m (2 ^ 53) && leb (down e) (2 ^ 1074) && ltb (m * up e) (2 ^ 1024 * down e))) where
-  abbrev size-test : Bool
-  size-test = eqb (m % 2) 1 && ltb m (2 ^ 53)
-
-  before : T (size-test && leb (down e) (2 ^ 1074))
-  before = and-l (size-test && leb (down e) (2 ^ 1074)) (ltb (m * up e) (2 ^ 1024 * down e)) h
-
-  few-of : m < 2 ^ 53
-  few-of = ltb→lt m (2 ^ 53) (and-r (eqb (m % 2) 1) (ltb m (2 ^ 53)) (and-l size-test (leb (down e) (2 ^ 1074)) before))
-
-  fine-of : down e ≤ 2 ^ 1074
-  fine-of = leb→le (down e) (2 ^ 1074) (and-r size-test (leb (down e) (2 ^ 1074)) before)
 
 pub scaled-of : (t : Bool) (m : ℕ) (e : ℤ) → T (fits binary64 (fin t m e)) → Scaled (m * up e) (down e)
 unfolding fits

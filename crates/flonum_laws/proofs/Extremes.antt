@@ -13,7 +13,7 @@ use Rattle.flonum.specs.declared.extremes.ExtremesAnswer.{ExtremesAnswer}
 use Rattle.flonum.specs.Extremes.{above, kept, extend, extendAll, extremes}
 use Rattle.flonum.specs.Calls.{isCount, extremesOf, extremesAnswer}
 use Rattle.flonum.proofs.CallLaws.{count-bounds, bad-count, good-count}
-use Rattle.flonum.proofs.ExtremesLaws.{better-kept, old-kept}
+use Rattle.flonum.proofs.ExtremesLaws.{better-kept, old-kept, with-nan, with-number}
 use Rattle.flonum.proofs.NanLaws.{nan-is}
 use Rattle.flonum_laws.specs.Extremes.{Extreme, NoNan, ExtremesStatement}
 use Rattle.flonum_laws.proofs.OrderLaws.{Order, lt-order, above-order}
@@ -121,8 +121,7 @@ abbrev both : Float → Float → Extremes
 both s l = record { smallest = s; largest = l }
 
 extend-number : (e : Extremes) (x : Float) → isNan x ≡ false → extend e x ≡ both (kept lt (e .smallest) x) (kept above (e .largest) x)
-unfolding extend
-extend-number e x n = ap (λ (b : Bool). cond b (both nan nan) (both (kept lt (e .smallest) x) (kept above (e .largest) x))) n
+extend-number e x n = sym (with-number e x (kept lt (e .smallest) x) (kept above (e .largest) x) n refl refl)
 
 halves : (s l : Float) (xs : List Float) → NoNan xs → extendAll (both s l) xs ≡ both (keptAll lt s xs) (keptAll above l xs)
 unfolding extendAll keptAll
@@ -161,8 +160,7 @@ all-stay [] = refl
 all-stay (x ∷ xs) = ap (λ (e : Extremes). extendAll e xs) (stay x) ∙ all-stay xs
 
 extend-nan : (e : Extremes) (x : Float) → isNan x ≡ true → extend e x ≡ both nan nan
-unfolding extend
-extend-nan e x n = ap (λ (b : Bool). cond b (both nan nan) (both (kept lt (e .smallest) x) (kept above (e .largest) x))) n
+extend-nan e x n = sym (with-nan e x nan nan n refl refl)
 
 nan-among : (e : Extremes) (xs : List Float) (i : ℕ) → i < length xs → isNan (getD xs i nan) ≡ true → extendAll e xs ≡ both nan nan
 unfolding extendAll

@@ -1,6 +1,6 @@
 -- The magnitudes of the four roundings against floor and ceiling of a quotient of integers. Assumes nothing.
 use Prim.Native.Nat.{ℕ, zero, suc, _+_, _*_, _/_, _%_, _-_, _≤_, _<_}
-use native.Mathlib.Nat.{div-add-mod', mod-lt, div-eq-of-lt, suc-mul, add-zero, zero-mul, lt-of-mul-lt-mul-right, eq-or-lt-of-le}
+use native.Mathlib.Nat.{le-trans, le-of-eq, div-add-mod', mod-lt, div-eq-of-lt, suc-mul, add-zero, zero-mul, lt-of-mul-lt-mul-right, eq-or-lt-of-le}
 use native.Mathlib.Numerals.{add-one}
 use native.Mathlib.Omega.{arith}
 use mathlib.Core.Path.{_≡_, refl, sym, ap, _∙_, subst}
@@ -13,9 +13,9 @@ use Rattle.bits.specs.Shift.{floorDiv}
 use Rattle.words.specs.Sign.{withSign}
 use Rattle.flonum.specs.declared.rounding.Rounding.the-variants.{Floor, Ceiling, Truncate}
 use Rattle.flonum.specs.Rounding.{roundedUp, magnitude}
-use Rattle.flonum.proofs.Magnitudes.{Picks, closest-picks, magnitude-whole}
+use Rattle.flonum.proofs.Magnitudes.{closest-picks, magnitude-whole}
 use Rattle.flonum_laws.specs.Roundings.{ceilingDiv, NearestWhole}
-use Rattle.flonum_laws.proofs.Multiples.{apart, le-or-gt}
+use Rattle.flonum_laws.proofs.Multiples.{apart, next-multiple, even-sum, nearest-multiple}
 use Rattle.flonum_laws.proofs.Distances.{sign-times, gap-same, abs-sign}
 
 -- ---- floor
@@ -75,44 +75,35 @@ module _ (d : ℕ) (D : 0 < d) where
   truncate-is true a = ceiling-is true a
   truncate-is false a = floor-is false a
 
-  -- ---- nearest: a is w d + r, and c is picked
-  module _ (a w r c : ℕ) (e : w * d + r ≡ a) (l : r < d) (p : Picks w (r * 2) d c) where
-    even-sum : (w : ℕ) → (w + w % 2) % 2 ≡ 0
-    even-sum w = omega arith
+  -- ---- nearest: no farther than the multiples of d on both sides, which are d apart
+  module _ (a : ℕ) where
+    abbrev away : ℕ
+    away = apart (closest a d * d) a
 
-    abbrev Near : ℕ → Type 0
-    Near k = (apart (k * d) a * 2 ≤ d) × (apart (k * d) a * 2 ≡ d → k % 2 ≡ 0)
-
-    low : (x : ℕ) → x + r ≡ a → r * 2 ≤ d → apart x a * 2 ≡ r * 2
-    low x q h = omega arith
-
-    high : (x : ℕ) → x + r ≡ a → d ≤ r * 2 → apart (x + d) a * 2 ≡ (d - r) * 2
-    high x q h = omega arith
-
-    picked-near : (r * 2 ≤ d) ⊎ (d < r * 2) → Near c
-    picked-near (inr h) =
-        let q : apart (c * d) a * 2 ≡ (d - r) * 2 = ap (λ (x : ℕ). apart (x * d) a * 2) (p .more h) ∙ ap (λ (x : ℕ). apart x a * 2) (suc-mul w d) ∙ high (w * d) e (let k : d ≤ r * 2 = omega arith in k) in
-        ((let k : apart (c * d) a * 2 ≤ d = omega arith in k), λ f. absurd (let k : ⊥ = omega arith in k))
-    picked-near (inl h) = elim (eq-or-lt-of-le h) [
-      | inr k ↦
-          let q : apart (c * d) a * 2 ≡ r * 2 = ap (λ (x : ℕ). apart (x * d) a * 2) (p .less k) ∙ low (w * d) e h in
-          ((let g : apart (c * d) a * 2 ≤ d = omega arith in g), λ f. absurd (let g : ⊥ = omega arith in g))
-      | inl k ↦ (tie-near (w % 2) (mod-lt w (let g : 0 < 2 = omega arith in g)) k (p .same k), λ f. ap (λ (x : ℕ). x % 2) (p .same k) ∙ even-sum w)
-    ]
+    sides : (away ≤ a % d) × (away ≤ d - a % d)
+    sides = (
+      le-trans (nearest-multiple a d (a / d) D) (le-of-eq (below (a / d * d) (div-add-mod' a d))),
+      le-trans (nearest-multiple a d (a / d + 1) D) (le-of-eq (ap (λ (x : ℕ). apart x a) (sym (next-multiple (a / d) d)) ∙ above (a / d * d) (div-add-mod' a d) (mod-lt a D))),
+    )
       where
-        tie-near : (b : ℕ) → b < 2 → r * 2 ≡ d → c ≡ w + b → apart (c * d) a * 2 ≤ d
-        tie-near zero x k q = let f : apart (c * d) a * 2 ≡ r * 2 = ap (λ (y : ℕ). apart (y * d) a * 2) (q ∙ add-zero w) ∙ low (w * d) e (let g : r * 2 ≤ d = omega arith in g) in omega arith
-        tie-near (suc zero) x k q = let f : apart (c * d) a * 2 ≡ (d - r) * 2 = ap (λ (y : ℕ). apart (y * d) a * 2) (q ∙ add-one w) ∙ ap (λ (y : ℕ). apart y a * 2) (suc-mul w d) ∙ high (w * d) e (let g : d ≤ r * 2 = omega arith in g) in omega arith
-        tie-near (suc (suc b)) x k q = absurd (too-many b x)
-          where
-            too-many : (b : ℕ) → suc (suc b) < 2 → ⊥
-            too-many b h = omega arith
+        below : (x : ℕ) → x + a % d ≡ a → apart x a ≡ a % d
+        below x e = omega arith
+
+        above : (x : ℕ) → x + a % d ≡ a → a % d < d → apart (x + d) a ≡ d - a % d
+        above x e l = omega arith
+
+    near-half : away * 2 ≤ d
+    near-half = let l : a % d < d = mod-lt a D in omega (arith, sides)
+
+    even-half : away * 2 ≡ d → closest a d % 2 ≡ 0
+    even-half h =
+        let half : a % d * 2 ≡ d = let l : a % d < d = mod-lt a D in omega (arith, sides) in
+        ap (λ (x : ℕ). x % 2) (closest-picks a d .same half) ∙ even-sum (a / d)
 
   pub round-is : (s : Bool) (a : ℕ) → NearestWhole (withSign s a) d (withSign s (closest a d))
   round-is s a =
-      let near = picked-near a (a / d) (a % d) (closest a d) (div-add-mod' a d) (mod-lt a D) (closest-picks a d) (le-or-gt (a % d * 2) d) in
       let gap : natAbs (withSign s (closest a d) *ℤ pos d -ℤ withSign s a) ≡ apart (closest a d * d) a = ap (λ (z : ℤ). natAbs (z -ℤ withSign s a)) (sign-times s (closest a d) d) ∙ gap-same s (closest a d * d) a in
       record {
-        near = subst (λ (x : ℕ). x * 2 ≤ d) (sym gap) (near .0);
-        even = λ h. ap (λ (x : ℕ). x % 2) (abs-sign s (closest a d)) ∙ near .1 (ap (λ (x : ℕ). x * 2) (sym gap) ∙ h);
+        near = subst (λ (x : ℕ). x * 2 ≤ d) (sym gap) (near-half a);
+        even = λ h. ap (λ (x : ℕ). x % 2) (abs-sign s (closest a d)) ∙ even-half a (ap (λ (x : ℕ). x * 2) (sym gap) ∙ h);
       }

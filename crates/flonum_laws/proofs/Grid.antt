@@ -13,7 +13,7 @@ use lib.Ieee.Digits.{size-le, size-reaches}
 use lib.Ieee.Exact.{HasValue, units-val}
 use lib.Ieee.Fits.{nearest-le, kept-lt, round-is}
 use Rattle.flonum.proofs.Magnitudes.{closest-picks}
-use Rattle.flonum_laws.proofs.Multiples.{apart, le-or-gt, nearest-multiple, halfway}
+use Rattle.flonum_laws.proofs.Multiples.{apart, le-or-gt, even-sum, nearest-multiple, halfway}
 
 -- how many digits are dropped, the unit of the last digit that is kept, and the digits
 abbrev pub dropped : ℕ → ℕ
@@ -95,14 +95,11 @@ grid-even n q j Q s d = elim (le-or-gt (dropped n) j) [
       halfway n (unit n) (q * 2 ^ (j - dropped n)) (unit-pos n)
       (ap (λ (g : ℕ). apart g n) (sym (grid-is n)) ∙ s ∙ ap (λ (y : ℕ). apart y n) (sym (multiple n q j h)))
       (λ p. d (sym (multiple n q j h) ∙ p ∙ sym (grid-is n))) in
-      ap (λ (x : ℕ). x % 2) (closest-picks n (unit n) .same half) ∙ even (n / unit n)
+      ap (λ (x : ℕ). x % 2) (closest-picks n (unit n) .same half) ∙ even-sum (n / unit n)
 ]
   where
     unlike : (a b : ℕ) → a ≡ b → a < b → ⊥
     unlike a b e h = omega arith
-
-    even : (w : ℕ) → (w + w % 2) % 2 ≡ 0
-    even w = omega arith
 
 -- ---- the flonum that n is rounded to, in units of 2 ^ -1074
 abbrev pub scaled : ℕ → ℕ

@@ -21,8 +21,11 @@ le-or-gt a b = go (leb a b) (leb→le a b) (nleb→lt a b)
     go true h k = inl (h tt)
     go false h k = inr (k tt)
 
-next-multiple : (w u : ℕ) → w * u + u ≡ (w + 1) * u
+pub next-multiple : (w u : ℕ) → w * u + u ≡ (w + 1) * u
 next-multiple w u = omega (arith, add-mul w 1 u, one-mul u)
+
+pub even-sum : (w : ℕ) → (w + w % 2) % 2 ≡ 0
+even-sum w = omega arith
 
 -- n is w u + r, with r < u
 module _ (n u w r : ℕ) (e : w * u + r ≡ n) (l : r < u) where

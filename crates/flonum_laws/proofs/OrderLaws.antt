@@ -9,6 +9,7 @@ use lib.Ieee.{Float, nan, inf, fin, up, down, lt, isNan, below}
 use lib.Ieee.Bits.{is-false}
 use lib.Ieee.Fits.{down-pos}
 use Rattle.flonum.specs.Extremes.{above}
+use Rattle.flonum.proofs.Values.{holds, fails}
 
 pub record Order (better : Float → Float → Bool) : Type 0 where
   pub one-way : (x y : Float) → better x y ≡ true → better y x ≡ false
@@ -128,20 +129,14 @@ lt-onward (fin s a e) (fin t b g) (inf false) n h k l = k
 lt-onward (fin s a e) (fin t b g) (fin u c d) n h k l =
     below-onward s t u (a * up e) (down e) (b * up g) (down g) (c * up d) (down d) (down-pos e) (down-pos g) (down-pos d) h k l
 
-truth : (b : Bool) → b ≡ true → T b
-truth b h = subst T (sym h) tt
-
-falsehood : (b : Bool) → b ≡ false → T (not b)
-falsehood b h = subst (λ (c : Bool). T (not c)) (sym h) tt
-
 no : (b : Bool) → (T b → ⊥) → b ≡ false
 no true h = absurd (h tt)
 no false h = refl
 
 pub lt-order : Order lt
 lt-order = record {
-  one-way = λ x y h. is-false (lt y x) (lt-one-way x y (truth (lt x y) h));
-  onward = λ x y z n h k. no (lt x z) (lt-onward x y z n (falsehood (lt x y) h) (falsehood (lt y z) k));
+  one-way = λ x y h. is-false (lt y x) (lt-one-way x y (holds h));
+  onward = λ x y z n h k. no (lt x z) (lt-onward x y z n (fails h) (fails k));
 }
 
 pub above-order : Order above
