@@ -4,12 +4,8 @@ use lib.IntN.{ℤ}
 use mir.Syntax.{w64}
 use mir.ValLaws.{to_z-of_z}
 use Rattle.outcomes.specs.Number.{number}
-use Rattle.outcomes.proofs.number.done.Statement.{statement}
-use Rattle.outcomes.proofs.number.done.Tie as tie
+use Rattle.outcomes.proofs.number.done.Goals as goal
 
-returns : tie.Need-returns
+pub returns : goal.returns
 unfolding number
 returns c = ap (λ (v : ℤ). record { refusal = 0; value = v }) (to_z-of_z w64 _ c.ranges.v)
-
-pub done-spec : {M : Type 1} → statement M
-done-spec = tie.close (tie.spec returns)

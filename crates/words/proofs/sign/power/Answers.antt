@@ -2,13 +2,8 @@
 use mathlib.Core.Path.{ap, ◌∙◌}
 use Prim.Native.Nat.{ℕ, ◌%◌, ◌^◌}
 use native.Mathlib.Nat.{one-mul, mod-eq_of_lt}
-use borrow.Author.Rules.{rules}
 use lib.Pow.{pow-lt}
-use Rattle.words.proofs.sign.power.Statement.{statement}
-use Rattle.words.proofs.sign.power.Tie as tie
+use Rattle.words.proofs.sign.power.Goals as goal
 
-returns : tie.Need-returns
+pub returns : goal.returns
 returns c = ap (λ (n : ℕ). n % 2 ^ 64) (one-mul (2 ^ c.args.k)) ∙ mod-eq_of_lt (pow-lt c.requires)
-
-pub power-spec : {M : Type 1} → statement M
-power-spec = tie.close (tie.spec (λ c. search rules) returns)

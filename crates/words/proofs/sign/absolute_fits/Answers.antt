@@ -6,13 +6,11 @@ use mathlib.Core.Bool.{Bool, true, false}
 use lib.Dec.{leb, ltb}
 use lib.Pow.{pow_mono}
 use mir.Val.{bool_byte}
-use borrow.Author.Rules.{rules}
 use borrow.Author.Tests.{leb-true, leb-false, lt-ltb, le-ltb}
 use Rattle.words.specs.Sign.{with_sign}
 use Rattle.bits.specs.Testbit.{fits}
 use Rattle.words.proofs.WordLaws.{fits_negative, fits-nonnegative}
-use Rattle.words.proofs.sign.absolute_fits.Statement.{statement}
-use Rattle.words.proofs.sign.absolute_fits.Tie as tie
+use Rattle.words.proofs.sign.absolute_fits.Goals as goal
 
 below_next : (n h : ℕ) → ltb n (h + 1) ≡ leb n h
 below_next n h = go (leb n h) refl
@@ -29,15 +27,12 @@ one_more : (negative : Bool) (w : ℕ) → w ≤ 64 → 2 ^ (w - 1) + bool_byte 
 one_more true w h = let p = pow_mono {i = w - 1} {j = 63} (omega arith) in omega arith
 one_more false w h = let p = pow_mono {i = w - 1} {j = 63} (omega arith) in omega arith
 
-add-result : tie.Need-overflow-add-result
-add-result c =
+pub overflow_add-result : goal.overflow_add-result
+overflow_add-result c =
     let a = c.before in
-    record { fits = rw c.power.ensures (one_more a.args.negative a.args.width a.requires.1) }
+    record { fits = rw c.power-half.ensures (one_more a.args.negative a.args.width a.requires.1) }
 
-returns : tie.Need-returns
+pub returns : goal.returns
 returns c =
-    let a = c.before.args in
-    ap (λ (p : ℕ). ltb a.n (p + bool_byte a.negative)) c.power.ensures ∙ test a.negative a.width a.n
-
-pub absolute-fits-spec : {M : Type 1} → statement M
-absolute-fits-spec = tie.close (tie.spec (λ c. search rules) (λ c κs. search rules) (λ c. search rules) add-result returns)
+    let a = c.args in
+    ap (λ (p : ℕ). ltb a.n (p + bool_byte a.negative)) c.power-half.ensures ∙ test a.negative a.width a.n

@@ -7,24 +7,20 @@ use mir.Val.{SFits, to_z, of_z}
 use Rattle.words.proofs.WordLaws.{back}
 use Rattle.bits.specs.Range.{within}
 use Rattle.bits.proofs.Booleans.{and_first, and_second}
-use Rattle.words.proofs.range.within.Statement.{statement}
-use Rattle.words.proofs.range.within.Tie as tie
+use Rattle.words.proofs.range.within.Goals as goal
 
 -- the machine's test x <= y
 test : {x y : ℤ} → SFits w64 x → SFits w64 y → le_z (to_z w64 (of_z w64 x)) (to_z w64 (of_z w64 y)) ≡ le_z x y
 test h k = rw (back h, back k)
 
-returns : tie.Need-returns
+pub returns-then-low-x : goal.returns-then-low-x
 unfolding within
-returns c =
-    let f = c.before.ranges in
-    test f.x f.high ∙ and_second _ _ (sym (test f.low f.x) ∙ c.if1.true)
+returns-then-low-x c =
+    let f = c.ranges in
+    test f.x f.high ∙ and_second _ _ (sym (test f.low f.x) ∙ c.if-low-x.true)
 
-returns-2 : tie.Need-returns-2
+pub returns-else-low-x : goal.returns-else-low-x
 unfolding within
-returns-2 c =
-    let f = c.before.ranges in
-    test f.low f.x ∙ and_first _ _ (sym (test f.low f.x) ∙ c.if1.false)
-
-pub within-spec : {M : Type 1} → statement M
-within-spec = tie.close (tie.spec returns returns-2)
+returns-else-low-x c =
+    let f = c.ranges in
+    test f.low f.x ∙ and_first _ _ (sym (test f.low f.x) ∙ c.if-low-x.false)
