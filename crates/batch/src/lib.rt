@@ -1,4 +1,6 @@
 // `batch`: a call on each line of standard input, and its answer on a line of standard output.
+#![tactic(auto)]
+
 ghost use Rattle.std.specs.Prelude.{◌≡◌, ◌≤◌, length};
 
 use bytes::scan::find;

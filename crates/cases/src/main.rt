@@ -1,4 +1,6 @@
 // The cases that document 01 has a program run: each line has a call and its answer.
+#![tactic(auto)]
+
 use output::{put, put_decimal, put_natural};
 
 fn put_shift(x: i64, distance: i64, text: &mut [u8], at: usize) -> usize {

@@ -1,4 +1,6 @@
 // What the command `ql` answers to a line of words, as text and an exit status.
+#![tactic(auto)]
+
 mod about;
 mod ops;
 

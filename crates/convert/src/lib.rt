@@ -1,5 +1,7 @@
 // Limbs as a fixnum at a width, and a fixnum as limbs. Of the limb part this uses `to_word`, `from_word` and the refused answers, by
 // their contracts alone: they speak of the integer and its shortest limbs, and not of how limbs are worked on.
+#![tactic(auto)]
+
 ghost use Rattle.std.specs.Prelude.{◌≡◌};
 ghost use Rattle.limbstages.specs.Buffer.{Writes};
 ghost use Rattle.outcomes.specs.Number.{number};

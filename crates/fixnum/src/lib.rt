@@ -1,4 +1,6 @@
 // The R6RS fixnum operations at any width from 24 to 64, by code.
+#![tactic(auto)]
+
 ghost use Rattle.std.specs.Prelude.{◌≡◌};
 ghost use Rattle.fxtable.specs.Calls.{fixnum_answer};
 

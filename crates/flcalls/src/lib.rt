@@ -1,4 +1,6 @@
 // `fl`: one flonum call, answered in words.
+#![tactic(auto)]
+
 mod answer;
 mod conversion;
 pub mod counts;

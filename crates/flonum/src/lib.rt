@@ -1,4 +1,6 @@
 // Flonum calls of R6RS over 64-bit IEEE numbers.
+#![tactic(auto)]
+
 ghost use Rattle.std.specs.Prelude.{◌≡◌, is_nan};
 ghost use Rattle.std.specs.Float.Ieee.Scale.{finite};
 ghost use Rattle.flonum.specs.Rounding as meaning;

@@ -1,1 +1,2 @@
 // No functions: this crate states what holds of whole flonum calls (specs/) and proves it (proofs/).
+#![tactic(auto)]

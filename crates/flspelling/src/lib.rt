@@ -1,5 +1,7 @@
 // Flonums as text, as C prints them by %a: hexadecimal digits and a power of two. Each function that puts text answers how many bytes of the
 // buffer are filled afterwards.
+#![tactic(auto)]
+
 ghost use Rattle.std.specs.Prelude.{◌≡◌, ◌<◌, ◌^◌};
 ghost use Rattle.io.specs.Counts.{IsPrefixLen};
 ghost use Rattle.flspelling.specs.Spellings as spellings;

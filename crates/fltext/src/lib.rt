@@ -1,4 +1,6 @@
 // Texts read as flonums: decimal or hexadecimal digits with or without a point and an exponent, inf and nan.
+#![tactic(auto)]
+
 mod exponent;
 mod form;
 pub mod limbs;

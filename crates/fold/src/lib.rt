@@ -1,5 +1,7 @@
 // The running fold: bytes taken chunk by chunk into an accumulator, which is rotated in a field and xored with each byte. The record is
 // handed in and out by value.
+#![tactic(auto)]
+
 ghost use Rattle.std.specs.Prelude.{◌≡◌};
 ghost use Rattle.outcomes.specs.Number.{number};
 ghost use Rattle.fold.specs.Fold.{settings};

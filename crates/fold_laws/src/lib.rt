@@ -1,1 +1,2 @@
 // No functions: theorems about whole runs of the fold's calls.
+#![tactic(auto)]

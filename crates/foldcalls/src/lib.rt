@@ -1,4 +1,6 @@
 // The running fold in the command: its settings as words give them, and what is said of them and of an identifier.
+#![tactic(auto)]
+
 pub mod answer;
 pub mod explain;
 pub mod join;

@@ -1,4 +1,6 @@
 // `fold` and `widths fold`: standard input, or each of some files, folded chunk by chunk.
+#![tactic(auto)]
+
 mod files;
 mod input;
 

@@ -1,4 +1,6 @@
 // What a fixnum call is: the widths, the operations' codes with the arguments that each takes, and the answer.
+#![tactic(auto)]
+
 pub mod answer;
 pub mod domains;
 pub mod table;

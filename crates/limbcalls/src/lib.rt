@@ -1,4 +1,6 @@
 // The bitwise calls of the command, answered in words.
+#![tactic(auto)]
+
 pub mod bitwise;
 mod explain;
 pub mod rules;

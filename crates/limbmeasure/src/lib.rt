@@ -1,5 +1,7 @@
 // How many limbs a described result has in its shortest form: measured from a number of limbs that is enough downwards.
 // What a caller must show stands in `requires`: these functions are for `limbs` and `text`, which check operands and numbers.
+#![tactic(auto)]
+
 ghost use Rattle.std.specs.Prelude.{◌≡◌, ◌*◌, ◌≤◌, ◌<◌, ◌^◌, eqb, length};
 ghost use Rattle.bits.specs.Testbit.{bit_length};
 ghost use Rattle.bits.specs.Logical.{bitwise};

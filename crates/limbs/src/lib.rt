@@ -4,6 +4,8 @@
 // takes its operands, its numbers, the output buffer and the first limb to write. It writes the shortest limbs of the result from there
 // on, and changes no other limb. Refusals, in this order: 7 for an operand of no limb, of more than 1,024, or of more than it needs, 5 for
 // a number outside its domain, 6 for a result of more than 1,024 limbs, 8 for a buffer that is too short. A refused call changes nothing.
+#![tactic(auto)]
+
 ghost use Rattle.std.specs.Prelude.{◌≡◌, true, ◌&&◌, ◌||◌};
 ghost use Rattle.std.specs.Bool.{xor};
 ghost use Rattle.outcomes.specs.Outcome as outcome;

@@ -1,4 +1,6 @@
 // The stages of a limb call: what is checked before a result is measured, and how a result is stored.
+#![tactic(auto)]
+
 pub mod answer;
 pub mod check;
 pub mod field;

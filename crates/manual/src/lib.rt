@@ -1,4 +1,6 @@
 // The long texts of `help`: what the command, each of its commands and each operation do, and an example of each operation.
+#![tactic(auto)]
+
 use names::{Table, put_line};
 use output::put;
 

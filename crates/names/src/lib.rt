@@ -1,4 +1,6 @@
 // The operations by name, and the one search through a list of names.
+#![tactic(auto)]
+
 ghost use Rattle.std.specs.Prelude.{◌≤◌, length};
 
 use bytes::scan;

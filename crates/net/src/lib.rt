@@ -1,4 +1,6 @@
 // The net count of a list of rotate and reverse calls on one field, call by call: document 01's demand 3 says that the list is one rotation by it.
+#![tactic(auto)]
+
 ghost use Rattle.std.specs.Prelude.{◌≡◌, ◌≤◌, ◌<◌, pos};
 ghost use Rattle.bits.specs.FieldList.{count_call, rotate, reverse};
 

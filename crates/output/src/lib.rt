@@ -1,5 +1,7 @@
 // Text and numbers, put into an output buffer one after the other. `at` is how many bytes of the buffer are filled; each function answers
 // how many are filled afterwards. What is beyond the buffer's end is cut off.
+#![tactic(auto)]
+
 ghost use Rattle.std.specs.Prelude.{◌≡◌};
 ghost use Prim.Native.Nat as nat;
 ghost use Rattle.io.specs.Counts.{IsPrefixLen};

@@ -1,5 +1,7 @@
 // The command `ql`: what the words of the command line ask is answered on standard output, or on standard error where a word cannot be
 // read, by one write.
+#![tactic(auto)]
+
 ghost use Rattle.std.specs.Prelude.{◌≤◌};
 
 use batch::run_batch;

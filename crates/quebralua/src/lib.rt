@@ -1,5 +1,7 @@
 // The C library: the fixnum calls, the limb calls, the conversions, the fold, stored rules and the flonum calls under plain C names, with the contract of each.
 // include/quebralua.h is the header. In C a slice is a pointer and a length.
+#![tactic(auto)]
+
 ghost use Rattle.std.specs.Prelude.{◌≡◌, ◌&&◌, ◌||◌, [], ◌∷◌};
 ghost use Rattle.std.specs.Bool.{xor};
 ghost use Rattle.convert.specs.Convert.{to_fixnum_outcome, to_limbs_outcome};

@@ -1,1 +1,2 @@
 // No functions: theorems about reading and evaluating stored rules.
+#![tactic(auto)]

@@ -1,4 +1,6 @@
 // `rule`: a stored rule read, run, and run at every width, in words.
+#![tactic(auto)]
+
 pub mod asked;
 mod explain;
 mod fault;

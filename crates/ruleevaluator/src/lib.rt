@@ -1,5 +1,7 @@
 // The evaluation of stored rules. A rule is read whole, and then its bytes are gone through again: there is no heap, and the calls are nested
 // no deeper than the rule's forms.
+#![tactic(auto)]
+
 ghost use Rattle.std.specs.Prelude.{◌≡◌, true, false, drop, length, take};
 ghost use Rattle.fxtable.specs.Calls.{answer_of};
 ghost use Rattle.fxtable.specs.Domains.{is_width};

@@ -1,4 +1,6 @@
 // `rule` with a rule in a file: @ and its name. The name - is standard input's.
+#![tactic(auto)]
+
 ghost use Rattle.std.specs.Prelude.{◌≤◌};
 
 use line::reply::{TROUBLE, trouble};

@@ -1,4 +1,6 @@
 // The reader of stored rules: whether bytes are a rule, at which width it runs, or where the earliest offending item begins.
+#![tactic(auto)]
+
 ghost use Rattle.std.specs.Prelude.{◌≡◌, ◌≤◌, length, drop, cond, eqb};
 ghost use Rattle.rules.specs.Limits.{deepest, is_stored_width};
 ghost use Rattle.rules.specs.Parse.{and_then, parse, read_form, rule, whole};

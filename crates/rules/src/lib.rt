@@ -1,4 +1,5 @@
 // What a stored rule is: no code but the answers' shapes. The meaning is in specs/, its laws are in proofs/.
+#![tactic(auto)]
 
 // What reading answers: the refusal number, 0 for done; the offset where the earliest offending item begins; the width that the rule runs at.
 #[repr(C)]

@@ -1,5 +1,7 @@
 // The value of a form, as the evaluator of stored rules answers it: leaves, a call's answer, and a rule's. The evaluator itself is in
 // `quebralua`, where it calls `ql_fixnum`.
+#![tactic(auto)]
+
 ghost use Rattle.std.specs.Prelude.{◌≡◌, true, ◌≤◌, drop, length};
 ghost use Rattle.bits.specs.Testbit.{fits};
 ghost use Rattle.fxtable.specs.Domains.{is_width};

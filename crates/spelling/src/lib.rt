@@ -1,4 +1,6 @@
 // Integers in limbs as text in hexadecimal.
+#![tactic(auto)]
+
 ghost use Rattle.std.specs.Prelude.{◌≡◌, ◌∷◌, ◌++◌, ◌<◌, ◌≤◌, ◌+◌, ◌*◌, ◌/◌, ◌%◌, ◌^◌, length, drop};
 ghost use Rattle.spelling.specs.Spellings as spellings;
 ghost use Rattle.spelling.specs.Spellings.{digits, hex_length, Spells};

@@ -1,4 +1,6 @@
 // Input that is read, answers that are written, and what is said where that fails.
+#![tactic(auto)]
+
 pub mod files;
 pub mod read;
 pub mod write;

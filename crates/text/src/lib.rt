@@ -1,4 +1,6 @@
 // Texts read as integers: digits in base 10, or in base 16, 10, 8 or 2 after #x, #d, #o or #b, or 16 or 2 after 0x or 0b, with or without a sign.
+#![tactic(auto)]
+
 pub mod digit;
 mod form;
 mod long;

@@ -1,6 +1,8 @@
 #![tactic(auto)]
 // Integer operations on 64-bit words, each with a contract in the meanings of `bits`. What a caller must show stands in
 // `requires`: these functions are for the crates above, which check arguments.
+#![tactic(auto)]
+
 pub mod count;
 pub mod field;
 pub mod logical;
