@@ -1,4 +1,3 @@
-#![tactic(auto)]
 // Integer operations on 64-bit words, each with a contract in the meanings of `bits`. What a caller must show stands in
 // `requires`: these functions are for the crates above, which check arguments.
 #![tactic(auto)]
