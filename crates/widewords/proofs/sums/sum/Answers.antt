@@ -1,0 +1,12 @@
+-- `widewords::sums::sum` meets its contract. Assumes nothing.
+use Rattle.std.proofs.Common.{◌∙◌}
+use Rattle.words.proofs.WordLaws.{back}
+use Rattle.widewords.proofs.DoubleLaws.{sum-modulo, modulo}
+use Rattle.widewords.proofs.sums.sum.Goals as goal
+
+pub returns : goal.returns
+returns c =
+    c.add-2.ensures
+    ∙ sum-modulo _ _
+    (c.add.ensures ∙ sum-modulo _ _ (c.of_word.ensures ∙ modulo (back c.ranges.x)) (c.of_word-2.ensures ∙ modulo (back c.ranges.y)))
+    (c.of_word-3.ensures ∙ modulo (back c.ranges.z))
