@@ -56,6 +56,7 @@ fn plain(least: u64, most: u64) -> Signature
 
 // The table of document 01. For a number that is no code: a row that allows no count. Constants in each arm: the compiler makes
 // tables of them.
+#[tactic(auto, unfolding(crate::specs::Table::signature_of, crate::specs::Table::row_of, crate::specs::Table::rows, crate::specs::Domains::domain_at, crate::specs::Operations::has_two))]
 pub fn signature_of(code: u64) -> Signature
     ensures { result ≡ signature_of code }
 {

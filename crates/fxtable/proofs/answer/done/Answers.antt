@@ -4,12 +4,8 @@ use lib.IntN.{ℤ}
 use Rattle.outcomes.specs.Outcome.{done}
 use Rattle.words.proofs.WordLaws.{back}
 use Rattle.fxtable.specs.Calls.{answer}
-use Rattle.fxtable.proofs.answer.done.Statement.{statement}
-use Rattle.fxtable.proofs.answer.done.Tie as tie
+use Rattle.fxtable.proofs.answer.done.Goals as goal
 
-returns : tie.Need-returns
+pub returns : goal.returns
 unfolding answer
 returns c = ap₂ (λ (x y : ℤ). answer (done (x, y))) (back c.ranges.first) (back c.ranges.second)
-
-pub done-spec : {M : Type 1} → statement M
-done-spec = tie.close (tie.spec returns)

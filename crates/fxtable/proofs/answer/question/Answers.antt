@@ -1,13 +1,11 @@
 -- `fxtable::answer::question` meets its contract. Assumes nothing.
-use borrow.Author.Rules.{rules}
 use mathlib.Core.Path.{◌≡◌, refl, ◌∙◌}
 use mathlib.Core.Bool.{Bool, true, false}
 use mir.Syntax.{w64}
 use mir.Val.{bool_byte, to_z}
 use Rattle.fxtable.specs.Operations.{truth}
 use Rattle.fxtable.proofs.CallLaws.{done-cong}
-use Rattle.fxtable.proofs.answer.question.Statement.{statement}
-use Rattle.fxtable.proofs.answer.question.Tie as tie
+use Rattle.fxtable.proofs.answer.question.Goals as goal
 
 -- a bool as a number
 as_number : (b : Bool) → to_z w64 (bool_byte b) ≡ truth b
@@ -15,8 +13,5 @@ unfolding truth
 as_number true = refl
 as_number false = refl
 
-returns : tie.Need-returns
-returns c = c.done.ensures ∙ done-cong (as_number c.before.args.yes) refl
-
-pub question-spec : {M : Type 1} → statement M
-question-spec = tie.close (tie.spec (λ c. search rules) (λ c κs. search rules) returns)
+pub returns : goal.returns
+returns c = c.done.ensures ∙ done-cong (as_number c.args.yes) refl
