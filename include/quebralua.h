@@ -1,6 +1,6 @@
 /* Quebralua: the R6RS fixnum operations at any width from 24 to 64, the R6RS bitwise operations on integers in 32-bit
    limbs, the conversions between the two, the running fold that makes an identifier of bytes, stored rules, and some
-   flonums. Link libquebralua.a, which `rt staticlib quebralua` writes.
+   flonums. Link libquebralua.a, which `tools/staticlib` writes.
 
    Every call returns, whatever numbers come in. An answer begins with a refusal number:
 

@@ -1,4 +1,4 @@
-//! Tells the linker where libquebralua.a is: the directory QUEBRALUA_LIB, or the one that `rt staticlib` writes to.
+//! Tells the linker where libquebralua.a is: the directory QUEBRALUA_LIB, or the one that `tools/staticlib` writes to.
 
 use std::env;
 use std::path::PathBuf;
