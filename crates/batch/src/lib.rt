@@ -3,7 +3,7 @@
 
 ghost use Rattle.std.specs.Prelude.{◌≡◌, ◌≤◌, length};
 
-use bytes::scan::find;
+use output::scan::find;
 use flcalls::reply_fl;
 use fxcalls::fx::reply_fx;
 use limbcalls::bitwise::reply_bitwise;
@@ -289,7 +289,7 @@ fn finish(input: &[u8], line: &mut [u8], said: &mut [u8], out: &mut [u8], state:
 }
 
 pub fn run_batch(input: &mut [u8], out: &mut [u8]) -> u64 {
-    let mut line = io::large_buffer();
+    let mut line = output::large_buffer();
     let mut said = answer_space();
     let last = run_turns(input, &mut line, &mut said, out);
     let state = last.state;

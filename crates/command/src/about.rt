@@ -1,5 +1,5 @@
 // `help`: what the command and each operation do.
-ghost use Rattle.io.specs.Counts.{IsPrefixLen};
+ghost use Rattle.output.specs.Counts.{IsPrefixLen};
 
 use flcalls::counts::{least, most};
 use flcalls::reply_fl;

@@ -20,7 +20,7 @@ pub fn put_flonum(x: f64, out: &mut [u8], at: usize) -> usize {
     let at = put(&text[..n], out, at);
     let at = put(b" 0x", out, at);
     let mut digits = [0u8; 16];
-    let k = io::hex(bits(x), 16, &mut digits);
+    let k = output::digits::hex(bits(x), 16, &mut digits);
     put(&digits[..k], out, at)
 }
 

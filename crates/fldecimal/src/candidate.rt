@@ -31,7 +31,7 @@ pub fn try_number(x: f64, q: u64, up: u64, down: u64, out: &mut [u8]) -> usize
 {
     let at = put_if(is_negative(x), b"-", out, 0);
     let mut digits = [0u8; 20];
-    let k = io::decimal(q, &mut digits);
+    let k = output::digits::decimal(q, &mut digits);
     let n = put_digits(&digits[..k], up, down, out, at);
     if reads_as(x, &out[..n]) { n } else { 0 }
 }

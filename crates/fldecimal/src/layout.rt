@@ -1,7 +1,7 @@
 // Digits with their point in its place, or with an exponent: from 10^16 on, where a whole number of so many digits would not be exact, and below
 // 10^-6.
 ghost use Rattle.std.specs.Prelude.{◌≤◌, length};
-ghost use Rattle.io.specs.Counts.{IsPrefixLen};
+ghost use Rattle.output.specs.Counts.{IsPrefixLen};
 
 use output::{put, put_if, put_natural};
 

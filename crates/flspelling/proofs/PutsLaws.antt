@@ -5,7 +5,7 @@ use mathlib.Core.Path.{◌≡◌, sym, ap, ap₂, ◌∙◌}
 use mathlib.Core.List.{List, [], ◌++◌}
 use lib.ListN.{length, take, drop, take-append-drop}
 use lib.Seq.{take-nil, length-take-le}
-use Rattle.io.specs.Counts.{IsPrefixLen}
+use Rattle.output.specs.Counts.{IsPrefixLen}
 use Rattle.outcomes.specs.Buffer.{laid}
 use Rattle.output.specs.Put.{filled, after}
 use Rattle.output.proofs.PutLaws.{after-length}

@@ -3,7 +3,7 @@
 #![tactic(auto)]
 
 ghost use Rattle.std.specs.Prelude.{◌≡◌, ◌<◌, ◌^◌};
-ghost use Rattle.io.specs.Counts.{IsPrefixLen};
+ghost use Rattle.output.specs.Counts.{IsPrefixLen};
 ghost use Rattle.flspelling.specs.Spellings as spellings;
 ghost use Rattle.flspelling.specs.Spellings.{fraction, pointed, place, decimal, power, leading, magnitude, text_of_bits, Spells};
 ghost use Rattle.flspelling.specs.Inner.{Puts};

@@ -24,7 +24,7 @@ pub fn run_fold(line: &[u8], out: &mut [u8]) -> u64 {
         let reply = reply_unopened(settings, out);
         return write_out(reply, out);
     }
-    let mut buffer = io::large_buffer();
+    let mut buffer = output::large_buffer();
     if count_past(line, settings.before) == 0 {
         run_input(settings, &mut buffer, out)
     } else {

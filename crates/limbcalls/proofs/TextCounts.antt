@@ -7,8 +7,8 @@ use mathlib.Core.List.{List}
 use lib.Dec.{leb, ltb}
 use lib.IntN.{nat_abs}
 use lib.ListN.{length, take, drop, length-take, length-append}
-use Rattle.io.specs.Counts.{IsPrefixLen}
-use Rattle.io.proofs.Counting.{prefix_len_of_le}
+use Rattle.output.specs.Counts.{IsPrefixLen}
+use Rattle.output.proofs.Counting.{prefix_len_of_le}
 use Rattle.outcomes.specs.Outcome.{Outcome, refused, done}
 use Rattle.outcomes.specs.Buffer.{laid, afterwards, count_of}
 use Rattle.limbwords.specs.Value.{limb_count}

@@ -1,6 +1,6 @@
 // `bitwise`: one bitwise call on long integers.
 ghost use Rattle.std.specs.Prelude.{◌≡◌, ◌≤◌, length};
-ghost use Rattle.io.specs.Counts.{IsPrefixLen};
+ghost use Rattle.output.specs.Counts.{IsPrefixLen};
 
 use super::explain::put_bitwise_refusal;
 use super::rules::{arity, numbers_of};

@@ -3,9 +3,8 @@
 
 ghost use Rattle.std.specs.Prelude.{◌≤◌, length};
 
-use bytes::scan;
 use check::same;
-use output::put;
+use output::{put, scan};
 
 // The commands.
 fn command_lines() -> [u8; 60] {

@@ -2,17 +2,36 @@
 // how many are filled afterwards. What is beyond the buffer's end is cut off.
 #![tactic(auto)]
 
-ghost use Rattle.std.specs.Prelude.{◌≡◌};
+ghost use Rattle.std.specs.Prelude.{◌≡◌, ◌≤◌, ◌++◌, length, take, drop};
 ghost use Prim.Native.Nat as nat;
-ghost use Rattle.io.specs.Counts.{IsPrefixLen};
+ghost use Rattle.output.specs.Counts.{IsPrefixLen};
 ghost use Rattle.output.specs.Put.{filled, after};
 
+pub mod digits;
+pub mod scan;
+
 use words::sign::{absolute, is_negative};
+
+// 65,536 zeros: the room for the words of a command line, for an input and for an answer.
+pub fn large_buffer() -> [u8; 65536]
+    ensures { 65536 ≡ length result }
+{
+    [0; 65536]
+}
 
 fn min(a: usize, b: usize) -> usize
     ensures { result ≡ nat.min a b }
 {
     if a < b { a } else { b }
+}
+
+// Copies a text to the start of a buffer that has room for it.
+fn copy(text: &[u8], out: &mut [u8])
+    requires { length text.now ≤ length out.old }
+    ensures { out.new ≡ take (length text.now) text.now ++ drop (length text.now) out.old }
+{
+    let n = text.len();
+    out[..n].copy_from_slice(text);
 }
 
 pub fn put(text: &[u8], out: &mut [u8], at: usize) -> usize
@@ -24,7 +43,7 @@ pub fn put(text: &[u8], out: &mut [u8], at: usize) -> usize
         return out.len();
     }
     let n = min(text.len(), out.len() - at);
-    bytes::copy(&text[..n], &mut out[at..]);
+    copy(&text[..n], &mut out[at..]);
     at + n
 }
 
@@ -43,7 +62,7 @@ pub fn put_natural(n: u64, out: &mut [u8], at: usize) -> usize
     ensures { IsPrefixLen result out.new }
 {
     let mut digits = [0u8; 20];
-    let k = io::decimal(n, &mut digits);
+    let k = digits::decimal(n, &mut digits);
     put(&digits[..k], out, at)
 }
 
@@ -60,7 +79,7 @@ pub fn put_hexadecimal(n: i64, out: &mut [u8], at: usize) -> usize
     let at = put_if(is_negative(n), b"-", out, at);
     let at = put(b"0x", out, at);
     let mut digits = [0u8; 16];
-    let k = io::hex(absolute(n), 1, &mut digits);
+    let k = digits::hex(absolute(n), 1, &mut digits);
     put(&digits[..k], out, at)
 }
 

@@ -64,7 +64,7 @@ pub fn reply_bytes(asked: Asked, rule: &[u8], out: &mut [u8]) -> Reply {
 
 // A rule in hexadecimal.
 fn reply_digits(line: &[u8], asked: Asked, out: &mut [u8]) -> Reply {
-    let mut bytes = io::large_buffer();
+    let mut bytes = output::large_buffer();
     let word = word(line, BEFORE);
     let start = word.start;
     let end = word.end;

@@ -47,7 +47,7 @@ fn take_file(name: &[u8], buffer: &mut [u8], out: &mut [u8]) -> Reading {
 }
 
 fn run_file(name: &[u8], asked: Asked, out: &mut [u8]) -> u64 {
-    let mut buffer = io::large_buffer();
+    let mut buffer = output::large_buffer();
     let reading = take_file(name, &mut buffer, out);
     if !reading.good {
         return TROUBLE;

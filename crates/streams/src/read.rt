@@ -1,6 +1,6 @@
 // Reading an input to its end.
 ghost use Rattle.std.specs.Prelude.{◌<◌};
-ghost use Rattle.io.specs.Counts.{IsPrefixLen};
+ghost use Rattle.output.specs.Counts.{IsPrefixLen};
 
 use output::put;
 
