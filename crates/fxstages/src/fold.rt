@@ -6,7 +6,7 @@ ghost use Rattle.fxtable.specs.Calls.{counted};
 
 use words::logical::{and, ior, xor};
 
-#[derive(Drop)]
+#[derive(Clone, Copy)]
 pub enum Fold {
     Largest,
     Smallest,

@@ -1,5 +1,5 @@
 // Where an argument must lie, beyond being a fixnum; `Domain::Fixnum` asks for no more.
-#[derive(Drop)]
+#[derive(Clone, Copy)]
 pub enum Domain {
     Fixnum,
     Divisor,

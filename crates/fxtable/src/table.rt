@@ -17,7 +17,7 @@ pub fn is_code(code: u64) -> bool
 
 // What a code says of its arguments and results: how many arguments it takes, the domains of those after the first, which may be
 // any fixnum, and whether there are two results.
-#[derive(Drop)]
+#[derive(Clone, Copy)]
 pub struct Signature {
     pub least: u64,
     pub most: u64,

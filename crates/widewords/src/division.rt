@@ -8,7 +8,7 @@ ghost use Rattle.widewords.specs.Division.{Allowed, Divided};
 use words::sign::{absolute, is_negative};
 
 // A quotient and a remainder, each as its sign and its absolute value: that of the quotient may be 2^63.
-#[derive(Drop)]
+#[derive(Clone, Copy)]
 pub struct Quotient {
     pub negative: bool,
     pub absolute: u64,

@@ -10,7 +10,7 @@ use super::wide::Wide;
 use std::num::{wrapping_add_u64, wrapping_sub_u64};
 use words::sign::magnitude;
 
-#[derive(Drop)]
+#[derive(Clone, Copy)]
 pub struct Double {
     pub high: u64,
     pub low: u64,

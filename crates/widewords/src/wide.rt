@@ -5,7 +5,7 @@ ghost use Rattle.widewords.specs.Wide.{wide_value};
 
 use words::sign::{absolute, is_negative};
 
-#[derive(Drop)]
+#[derive(Clone, Copy)]
 pub struct Wide {
     pub negative: bool,
     pub high: u64,
