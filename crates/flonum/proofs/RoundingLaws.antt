@@ -1,9 +1,9 @@
 -- Rounding of flonums to whole numbers: the flonums that the code makes of magnitudes, and those that it returns unchanged. Assumes nothing.
-use Rattle.std.proofs.Common.{◌≡◌, ℕ, zero, suc, ◌+◌, ◌*◌, ◌/◌, ◌%◌, ◌^◌, ◌<◌, ◌≤◌, Bool, true, false, cond, not, ◌&&◌, T, eqb, ltb, leb, ℤ, pos, negsuc, sym, refl, ap, ◌∙◌, subst, ap₂, lt_of_lt_of_le, mul_assoc, zero-mul, mul-one, arith, lit<, lit≤, le→leb, ltb→lt, lt→ltb, nltb→le, pow_pos, pow_mono, pow-add, shl_lt}
+use Rattle.std.proofs.Common.{◌≡◌, ℕ, zero, suc, ◌+◌, ◌*◌, ◌/◌, ◌^◌, ◌<◌, ◌≤◌, Bool, true, false, cond, not, T, ltb, ℤ, pos, negsuc, sym, refl, ap, ◌∙◌, subst, ap₂, lt_of_lt_of_le, mul_assoc, zero-mul, mul-one, arith, lit<, lit≤, le→leb, ltb→lt, lt→ltb, nltb→le, pow_pos, pow_mono, pow-add, shl_lt}
 use native.Mathlib.Nat.{pow-succ'}
 use lib.Ieee.{Float, nan, inf, fin, Format, binary64, prec, emax, low, up, down, odd, units, neg, lt, mul, round, of_int, of_bits, in_float, fits, is_nan}
 use lib.Ieee.Exact.{HasValue, round_exact}
-use lib.Ieee.Fits.{down_pos, round_is, round-fits, and_l, and_r}
+use lib.Ieee.Fits.{down_pos, round_is, round-fits}
 use lib.Ieee.Back.{round_whole, whole_unique}
 use lib.Ieee.Positive.{num, den, den_pos, positive_of_value, mul_at}
 use Rattle.flonum.specs.declared.rounding.Rounding.{Rounding}

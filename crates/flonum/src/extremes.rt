@@ -8,7 +8,7 @@ ghost use Rattle.flonum.specs.Calls as calls;
 use super::ieee::{is_nan, one_nan, the_nan};
 
 #[repr(C)]
-#[derive(Drop)]
+#[derive(Clone, Copy)]
 pub struct Extremes {
     pub smallest: f64,
     pub largest: f64,

@@ -1,0 +1,7 @@
+-- `flonum::flfinite` meets its contract. Assumes nothing.
+use Rattle.std.proofs.Common.{ap, ◌∙◌}
+use Rattle.flonum.specs.Calls.{truth}
+use Rattle.flonum.proofs.flfinite.Goals as goal
+
+pub returns : goal.returns
+returns c = c.truth.ensures ∙ ap truth c.is_finite.ensures
