@@ -1,7 +1,7 @@
 // The description of a result: which operation, with which numbers. The operands are handed beside it, and an operation that
 // takes fewer than three gets its first one again.
 // Not is of the first operand, whatever the second is.
-#[derive(Drop)]
+#[derive(Clone, Copy)]
 pub enum Logic {
     And,
     Ior,
@@ -10,7 +10,7 @@ pub enum Logic {
 }
 
 // A field has the bits from start up to, but not at, end. CopyField takes its bits from the second operand.
-#[derive(Drop)]
+#[derive(Clone, Copy)]
 pub enum Operation {
     Logical(Logic),
     If,
