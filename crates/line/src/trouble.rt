@@ -120,9 +120,12 @@ pub fn put_word(line: &[u8], i: usize, out: &mut [u8], at: usize) -> usize {
     put_shown(&line[start..end], 40, out, at)
 }
 
+// How many bytes the name of a file has at most, and the 0 that ends it.
+const LONGEST_PATH: usize = 4096;
+
 // The name of a file: whole, unless no file can have it.
 pub fn put_file_name(name: &[u8], out: &mut [u8], at: usize) -> usize {
-    put_shown(name, libc::PATH_MAX, out, at)
+    put_shown(name, LONGEST_PATH, out, at)
 }
 
 // ` is 'x', and `, or ` is missing: `
