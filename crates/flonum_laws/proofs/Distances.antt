@@ -1,15 +1,14 @@
 -- Distances of flonums from an integer, as natural numbers: with the sign and the magnitude of each, and in units of 2 ^ -1074. Assumes nothing.
-use Prim.Native.Nat.{ℕ, zero, suc, ◌+◌, ◌*◌, ◌%◌, ◌^◌, ◌-◌, ◌≤◌, ◌<◌}
+use Prim.Native.Nat.{ℕ, zero, suc, ◌+◌, ◌*◌, ◌^◌, ◌-◌, ◌≤◌, ◌<◌}
 use native.Mathlib.Nat.{add-mul, le_trans, le_of_eq, le_of_mul-le-mul_right, eq_of_mul-eq-mul_right, mul-one, zero-mul, mul_assoc, mul_comm, mul_right_comm, mul-le-mul_right, mul-sub}
 use native.Mathlib.Omega.{arith}
 use mathlib.Core.Path.{◌≡◌, refl, sym, ap, ap₂, ◌∙◌}
 use mathlib.Core.Logic.{inl, inr}
-use mathlib.Core.Bool.{Bool, true, false, not, cond, ◌&&◌, beq}
-use lib.Dec.{T, leb, ltb, eqb, leb→le, ltb→lt, nltb→le, lit<}
+use mathlib.Core.Bool.{Bool, true, false, not, cond, beq}
+use lib.Dec.{T, ltb, ltb→lt, nltb→le, lit<}
 use lib.Pow.{pow-add, pow-lt}
 use lib.IntN.{ℤ, pos, negsuc, neg_ℤ, nat_abs, sub_ℕ, ◌+ℤ◌, ◌-ℤ◌, ◌*ℤ◌, neg_ℤ-neg_ℤ}
 use lib.Ieee.{fin, binary64, up, down, fits}
-use lib.Ieee.Fits.{and_l, and_r}
 use Rattle.words.specs.Sign.{with_sign}
 use Rattle.flonum.proofs.Values.{few-of, fine_of}
 use Rattle.flonum_laws.specs.Quotients.{numerator, negative}

@@ -1,10 +1,9 @@
 -- The magnitudes of the four roundings against floor and ceiling of a quotient of integers. Assumes nothing.
 use Prim.Native.Nat.{ℕ, zero, suc, ◌+◌, ◌*◌, ◌/◌, ◌%◌, ◌-◌, ◌≤◌, ◌<◌}
-use native.Mathlib.Nat.{le_trans, le_of_eq, div-add-mod', mod-lt, div-eq_of_lt, suc-mul, add-zero, zero-mul, lt_of_mul-lt-mul_right, eq-or-lt_of_le}
+use native.Mathlib.Nat.{le_trans, le_of_eq, div-add-mod', mod-lt, div-eq_of_lt, suc-mul, add-zero, zero-mul, lt_of_mul-lt-mul_right}
 use native.Mathlib.Numerals.{add-one}
 use native.Mathlib.Omega.{arith}
 use mathlib.Core.Path.{◌≡◌, refl, sym, ap, ◌∙◌, subst}
-use mathlib.Core.Logic.{◌⊎◌, inl, inr}
 use mathlib.Core.Bool.{Bool, true, false, not, cond}
 use lib.Dec.{eqb, eqb-suc-zero}
 use lib.IntN.{ℤ, pos, neg_ℤ, nat_abs, ◌-ℤ◌, ◌*ℤ◌, neg_ℤ-neg_ℤ}

@@ -6,7 +6,7 @@ use mathlib.Core.Path.{◌≡◌, refl, sym, ap, ◌∙◌, subst}
 use mathlib.Core.Bool.{Bool, false, not, cond}
 use lib.Dec.{T, lit<}
 use lib.IntN.{ℤ, pos, nat_abs, ◌*ℤ◌}
-use lib.Ieee.{Float, nan, inf, fin, binary64, up, down, round, fits, is_nan, to_bits, top}
+use lib.Ieee.{Float, nan, inf, fin, binary64, up, down, fits, is_nan, to_bits, top}
 use lib.Ieee.Bits.{to_bits-of_bits, nan_bits_is}
 use lib.Ieee.Fits.{down_pos, round-fits}
 use lib.Ieee.Positive.{den}
