@@ -1,22 +1,21 @@
 -- Constants, group by group, in positions. Assumes nothing.
-use Prim.Native.Nat.{ℕ, zero, suc, ◌+◌, ◌-◌, ◌*◌, ◌^◌, ◌≤◌, ◌<◌}
+use Prim.Native.Nat.{ℕ, suc, ◌+◌, ◌-◌, ◌*◌, ◌^◌, ◌≤◌, ◌<◌}
 use native.Mathlib.Omega.{arith}
-use mathlib.Core.Path.{◌≡◌, refl, sym, ap, ◌∙◌}
+use mathlib.Core.Path.{◌≡◌, refl, ap, ◌∙◌}
 use mathlib.Core.Bool.{Bool, true, false, cond}
-use mathlib.Core.List.{List, [], ◌∷◌}
+use mathlib.Core.List.{List, ◌∷◌}
 use lib.Dec.{ltb, leb}
 use lib.IntN.{ℤ, pos, negsuc}
 use lib.ListN.{length, drop, get_or, length-drop}
 use lib.Seq.{drop-length}
-use lib.Signed.{mag}
-use borrow.Author.Tests.{lt-ltb, le-ltb, lt-leb, le-leb, ltb-true, ltb-false, leb-true, leb-false}
+use borrow.Author.Tests.{lt-ltb, le-ltb, lt-leb, le-leb, ltb-false, leb-true, leb-false}
 use Rattle.bits.specs.Testbit.{fits}
 use Rattle.words.specs.Sign.{of_magnitude}
 use Rattle.rules.specs.Leb128.{Reading, got, offends, signed, join_z, of_last_z, is_last_z, decode, continued, shortest}
 use Rattle.rules.specs.Limits.{is_constant}
 use Rattle.rules.specs.Parse.{and_then}
 use Rattle.rulereader.specs.declared.constants.Groups.{Groups}
-use Rattle.rulereader.specs.Placed.{At, Offends, constant_from, joined_group, GroupsRead}
+use Rattle.rulereader.specs.Placed.{Offends, constant_from, joined_group, GroupsRead}
 use Rattle.rulereader.proofs.CutLaws.{cons, before}
 
 -- ---- on integers, by sign and magnitude

@@ -8,7 +8,7 @@ use mathlib.Core.List.{List, [], ◌∷◌}
 use lib.Dec.{ltb}
 use lib.ListN.{length, drop, get_or, length-drop}
 use lib.Seq.{drop-cons, drop-length}
-use borrow.Author.Tests.{lt-ltb, le-ltb, ltb-true, ltb-false}
+use borrow.Author.Tests.{lt-ltb, le-ltb, ltb-false}
 use Rattle.rules.specs.Leb128.{Reading, got, offends, Groups, unsigned, decode, continued, shortest}
 use Rattle.rules.specs.Parse.{and_then, item, read_number}
 use Rattle.rulereader.specs.Placed.{At, Offends, cut_off, OneGroup, Small}

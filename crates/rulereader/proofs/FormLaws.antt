@@ -1,7 +1,7 @@
 -- Forms and rules in positions: what the readers answer, and that they end. Assumes nothing.
-use Prim.Native.Nat.{ℕ, zero, suc, ◌+◌, ◌-◌, ◌*◌, ◌^◌, ◌≤◌, ◌<◌}
+use Prim.Native.Nat.{ℕ, ◌+◌, ◌-◌, ◌*◌, ◌^◌, ◌≤◌, ◌<◌}
 use native.Mathlib.Omega.{arith}
-use mathlib.Core.Path.{◌≡◌, refl, sym, ap, ◌∙◌}
+use mathlib.Core.Path.{◌≡◌, refl, ap, ◌∙◌}
 use mathlib.Core.Bool.{true, false}
 use mathlib.Core.List.{List, [], ◌∷◌}
 use lib.IntN.{ℤ}
@@ -17,7 +17,7 @@ use Rattle.rulereader.specs.declared.numbers.Number.{Number}
 use Rattle.rulereader.specs.declared.heads.Head as answered
 use Rattle.rulereader.specs.declared.forms.Place.{Place}
 use Rattle.rulereader.specs.declared.Stored.{Stored}
-use Rattle.rulereader.specs.Placed.{At, Offends, NumberRead, HeadRead, Read, Begins, RuleRead, StoredWidth}
+use Rattle.rulereader.specs.Placed.{At, Offends, NumberRead, HeadRead, Read, RuleRead, StoredWidth}
 use Rattle.rulereader.proofs.CutLaws.{before, cons}
 use Rattle.rulereader.proofs.HeadLaws.{number_read, number-fails, number-offends, small_width}
 

@@ -1,22 +1,22 @@
 -- The head of a form, and the width of a rule, in positions. Assumes nothing.
-use Prim.Native.Nat.{ℕ, zero, suc, ◌+◌, ◌-◌, ◌≤◌, ◌<◌}
+use Prim.Native.Nat.{ℕ, ◌+◌, ◌≤◌, ◌<◌}
 use native.Mathlib.Omega.{arith}
-use mathlib.Core.Path.{◌≡◌, refl, sym, ap, ◌∙◌}
-use mathlib.Core.Bool.{Bool, true, false, not, cond, true≢false, ◌&&◌, ◌||◌}
+use mathlib.Core.Path.{◌≡◌, refl}
+use mathlib.Core.Bool.{Bool, true, false, not, ◌||◌}
 use mathlib.Core.List.{List}
-use lib.Dec.{ltb, eqb}
+use lib.Dec.{eqb}
 use lib.IntN.{ℤ}
 use lib.ListN.{length, drop}
 use borrow.Author.Tests.{lt-ltb, le-ltb, ltb-true, eqb-true}
-use Rattle.bits.proofs.Booleans.{both_left, both_right}
+use Rattle.bits.proofs.Booleans.{both_left}
 use Rattle.fxtable.specs.Calls.{is_count}
 use Rattle.fxtable.specs.Domains.{is_width}
 use Rattle.fxtable.specs.Operations.{has_two}
 use Rattle.fxtable.specs.Table.{is_code, row_of}
 use Rattle.fxtable.proofs.CallLaws.{width-bounds}
 use Rattle.fxtable.proofs.TableLaws.{code-bounds, at-most-four}
-use Rattle.rules.specs.Tree.{Form, constant, input}
-use Rattle.rules.specs.Leb128.{Reading, got, offends}
+use Rattle.rules.specs.Tree.{constant, input}
+use Rattle.rules.specs.Leb128.{Reading, got}
 use Rattle.rules.specs.Limits.{is_tag, is_input, is_stored_code, is_stored_width}
 use Rattle.rules.specs.Parse.{Head, leaf, opens, and_then, read_number, read_constant, after_tag, read_head}
 use Rattle.rulereader.specs.declared.numbers.Number.{Number}

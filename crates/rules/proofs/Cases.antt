@@ -1,9 +1,9 @@
 -- Cases of stored rules, computed from the definitions: numbers in groups, rules and their bytes, each breach, evaluation. Assumes nothing.
 use Prim.Native.Nat.{ℕ, zero, suc}
 use mathlib.Core.Path.{◌≡◌, refl}
-use mathlib.Core.Bool.{Bool, true, false, not, xor}
-use mathlib.Core.List.{List, [], ◌∷◌, ◌++◌}
-use lib.IntN.{ℤ, pos, negsuc, neg_ℤ}
+use mathlib.Core.Bool.{Bool, true, false, xor}
+use mathlib.Core.List.{List, [], ◌∷◌}
+use lib.IntN.{ℤ, pos, neg_ℤ}
 use Rattle.bits.specs.Testbit.{is_negative, odd, testbit, halvings, bit_length, fits, fill, cons_bit, of_bits}
 use Rattle.bits.specs.Logical.{bitwise, bitwise_from, bitwise_all, bitwise_ands, bitwise_xors}
 use Rattle.bits.specs.Shift.{floor_div, shift_right, shift_left}
@@ -17,9 +17,8 @@ use Rattle.fxtable.specs.Operations.{results_of, has_two, minus}
 use Rattle.fxtable.specs.Table.{rows, is_code, row_of}
 use Rattle.fxtable.specs.Calls.{answer, counted, is_count, fixnum_tests, checked, outcome, fixnum_answer, answer_of}
 use Rattle.rules.specs.declared.RuleAnswer.{RuleAnswer}
-use Rattle.rules.specs.declared.ReadAnswer.{ReadAnswer}
-use Rattle.rules.specs.Tree.{Form, Forms, constant, input, call, none, more, Rule, count, size, depth}
-use Rattle.rules.specs.Leb128.{Reading, got, offends, unsigned, signed, low_z, high_z, join_z, of_last_z, is_last_z, encode, shortest, continued, decode}
+use Rattle.rules.specs.Tree.{Form, constant, input, call, none, more, Rule, count, size, depth}
+use Rattle.rules.specs.Leb128.{got, offends, unsigned, signed, low_z, high_z, join_z, of_last_z, is_last_z, encode, shortest, continued, decode}
 use Rattle.rules.specs.Limits.{is_stored_width, is_tag, is_input, is_constant, is_stored_code}
 use Rattle.rules.specs.Bytes.{bytes, encode_rule}
 use Rattle.rules.specs.Parse.{and_then, item, after_tag, read_head, read_forms, after_head, read_form, rule, read_rule, whole, parse}

@@ -4,7 +4,7 @@
 --   encode_rule r   ==  the bytes of a rule
 --   is_rule r       ==  whether a rule is within the limits and so can be stored
 --   AllBytes s     ==  each number of s is below 256, as every element of a run of bytes is
-use Rattle.std.specs.Prelude.{ℕ, ◌<◌, Bool, ◌&&◌, List, [], ◌∷◌, ◌++◌, leb, ℤ, length}
+use Rattle.std.specs.Prelude.{ℕ, ◌<◌, Bool, ◌&&◌, List, [], ◌∷◌, ◌++◌, leb, length}
 use Rattle.rules.specs.Tree.{Form, Forms, constant, input, call, none, more, count, depth, Rule}
 use Rattle.rules.specs.Leb128.{unsigned, signed, encode}
 use Rattle.rules.specs.Limits.{number_groups, constant_groups, deepest, longest, is_stored_width, within_limits}

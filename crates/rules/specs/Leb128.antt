@@ -7,7 +7,7 @@
 --   in_groups G k v      ==  whether k groups are enough
 --   decode G left k s   ==  the number at the head of s. It offends at its first byte, from where `left` bytes are left, if it is not the
 --                           shortest or has more than k groups, and at the end if s ends before its last group
-use Rattle.std.specs.Prelude.{ℕ, zero, suc, ◌+◌, ◌-◌, ◌*◌, ◌/◌, ◌%◌, Bool, true, false, cond, ◌||◌, List, [], ◌∷◌, ltb, ℤ, pos, negsuc}
+use Rattle.std.specs.Prelude.{ℕ, zero, suc, ◌+◌, ◌-◌, ◌*◌, ◌/◌, ◌%◌, Bool, false, cond, ◌||◌, List, [], ◌∷◌, ltb, ℤ, pos, negsuc}
 
 pub data Reading (A : Type 0) : Type 0 where
   got : A → List ℕ → Reading A
