@@ -1,5 +1,4 @@
 -- `fxbits::counts::counts` meets its contract. Assumes nothing.
-use borrow.Author.Rules.{rules}
 use native.Mathlib.Omega.{arith}
 use mathlib.Core.Path.{◌≡◌, ap, ◌∙◌}
 use mathlib.Core.List.{List, []}
@@ -20,8 +19,7 @@ use Rattle.fxtable.specs.Table.{rows, row, row_of}
 use Rattle.fxtable.specs.Inner.{Accepted}
 use Rattle.fxtable.proofs.CallLaws.{done-never}
 use Rattle.fxtable.proofs.MeaningLaws.{one-outcome}
-use Rattle.fxbits.proofs.counts.counts.Statement.{statement}
-use Rattle.fxbits.proofs.counts.counts.Tie as tie
+use Rattle.fxbits.proofs.counts.counts.Goals as goal
 
 -- a count of the first argument's bits, as the answer of its code
 count-answer : (f : ℤ → ℤ) {w code n : ℕ} {xs : List ℤ} {r : Answer} {y : ℤ} → r ≡ answer (done (to_z w64 (of_z w64 y), pos 0))
@@ -29,40 +27,21 @@ count-answer : (f : ℤ → ℤ) {w code n : ℕ} {xs : List ℤ} {r : Answer} {
     → r ≡ answer (outcome w code (counted xs n))
 count-answer f d e h k o a = done-never _ d h (e ∙ ap f (back k)) ∙ one-outcome (λ v x. f x) o a
 
-returns : tie.Need-returns
+pub returns-in-30 : goal.returns-in-30
 unfolding rows row_of arg
-returns c =
-    let x = c.before.before.before in
-    count-answer bit_count c.done.ensures c.before.bit-count.ensures c.before.bit-count.type-inv
-    (record { sfits = x.x.given }) (ap row_of c.before.before.match.keys1) x.before.requires.0
+returns-in-30 c =
+    count-answer bit_count c.done.ensures c.bit_count.ensures c.bit_count.type_inv
+    (record { sfits = c.x-1.given }) (ap row_of c.in-30.is) c.requires.accepted
 
-returns-2 : tie.Need-returns-2
+pub returns-in-31 : goal.returns-in-31
 unfolding rows row_of arg
-returns-2 c =
-    let x = c.before.before.before in
-    count-answer (λ z. pos (bit_length z)) c.done2.ensures c.before.length.ensures c.before.length.type-inv
-    (record { sfits = x.x.given }) (ap row_of c.before.before.match.keys2) x.before.requires.0
+returns-in-31 c =
+    count-answer (λ z. pos (bit_length z)) c.done-in-31.ensures c.length.ensures c.length.type_inv
+    (record { sfits = c.x-1.given }) (ap row_of c.in-31.is) c.requires.accepted
 
-returns-3 : tie.Need-returns-3
+pub returns-in_default : goal.returns-in_default
 unfolding rows row_of arg
-returns-3 c =
-    let x = c.before.before.before in
-    let rest = c.before.before.match.rest in
-    let last : x.before.args.code ≡ 32 = omega (arith, rest.1, rest.0.1, x.before.requires.1) in
-    count-answer first_bit_set c.done3.ensures c.before.first-bit-set.ensures c.before.first-bit-set.type-inv
-    (record { sfits = x.x.given }) (ap row_of last) x.before.requires.0
-
-pub counts-spec : {M : Type 1} → statement M
-counts-spec =
-    tie.close
-    (tie.spec
-    (λ c. search rules)
-    (λ c κs. search rules)
-    (λ c κs. search rules)
-    (λ c κs. search rules)
-    (λ c κs. search rules)
-    (λ c κs. search rules)
-    (λ c κs. search rules)
-    returns
-    returns-2
-    returns-3)
+returns-in_default c =
+    let last : c.args.code ≡ 32 = omega arith in
+    count-answer first_bit_set c.done-in_default.ensures c.first_bit_set.ensures c.first_bit_set.type_inv
+    (record { sfits = c.x-1.given }) (ap row_of last) c.requires.accepted

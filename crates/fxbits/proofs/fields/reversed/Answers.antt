@@ -1,0 +1,44 @@
+-- `fxbits::fields::reversed` meets its contract. Assumes nothing.
+use native.Mathlib.Omega.{arith}
+use mathlib.Core.Path.{refl, ◌∙◌}
+use lib.IntN.{nat_abs}
+use Rattle.bits.specs.Field.{reverse_bit_field}
+use Rattle.words.proofs.RotateWords.{reverse-put}
+use Rattle.fxtable.specs.Domains.{arg, domain_at}
+use Rattle.fxtable.specs.Table.{rows, row_of}
+use Rattle.fxtable.proofs.CallLaws.{done-never}
+use Rattle.fxtable.proofs.MeaningLaws.{three-outcome}
+use Rattle.fxstages.proofs.ArgumentLaws.{field}
+use Rattle.fxbits.proofs.FieldLaws.{FieldWords, field-words, on-field, field_lt}
+use Rattle.fxbits.proofs.fields.reversed.Goals as goal
+use Rattle.fxbits.proofs.fields.reversed.Goals.{After-absolute-end, Start}
+
+abbrev start : After-absolute-end → Start
+start c = c.before.before.before.before.before
+
+words : (c : After-absolute-end) → FieldWords (start c).args.args c.absolute-start.result c.absolute-end.result
+unfolding arg rows row_of domain_at
+words c =
+    field-words (field (start c).requires refl refl) c.x-1.given c.absolute-arg-1.given
+    c.absolute-arg-2-1.given c.absolute-start.ensures c.absolute-end.ensures
+
+pub bit_field-requires : goal.bit_field-requires
+bit_field-requires c = (words c).bounds
+
+pub overflow_sub-end : goal.overflow_sub-end
+overflow_sub-end c = (words c.before).bounds.0
+
+pub reverse-turned-requires : goal.reverse-turned-requires
+reverse-turned-requires c = (omega (arith, (words c.before).bounds), field_lt _ _ _ c.bit_field.ensures)
+
+pub copy_bit_field-requires : goal.copy_bit_field-requires
+copy_bit_field-requires c = (words c.before.before).bounds
+
+pub returns : goal.returns
+unfolding arg rows row_of
+returns c =
+    done-never _ c.done.ensures c.copy_bit_field.type_inv
+    (c.copy_bit_field.ensures
+    ∙ reverse-put _ _ _ c.bit_field.ensures c.reverse-turned.ensures
+    ∙ on-field (words c.before.before.before.before) reverse_bit_field)
+    ∙ three-outcome (λ v x s e. reverse_bit_field x (nat_abs s) (nat_abs e)) refl (start c.before.before.before.before).requires
