@@ -4,7 +4,7 @@ ghost use Rattle.fxtable.specs.Calls.{counted};
 ghost use Rattle.fxtable.specs.Operations as operations;
 ghost use Rattle.fxarith.specs.Relations as relations;
 
-#[derive(Drop)]
+#[derive(Clone, Copy)]
 pub enum Relation {
     Equal,
     Greater,

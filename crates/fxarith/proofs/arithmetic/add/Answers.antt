@@ -1,0 +1,17 @@
+-- `fxarith::arithmetic::add` meets its contract. Assumes nothing.
+use mathlib.Core.Path.{◌∙◌}
+use mir.Syntax.{w64}
+use mir.Val.{SFits}
+use Rattle.words.proofs.WordLaws.{back}
+use Rattle.fxtable.specs.Domains.{arg}
+use Rattle.fxarith.proofs.ArithmeticLaws.{sum-held, sum-outcome}
+use Rattle.fxarith.proofs.arithmetic.add.Goals as goal
+
+pub returns : goal.returns
+unfolding arg
+returns c =
+    let a = c.requires in
+    let first : SFits w64 (arg c.args.args 0) = record { sfits = c.x-1.given } in
+    let second : SFits w64 (arg c.args.args 1) = record { sfits = c.y-1.given } in
+    c.without_carry.ensures _ (sum-held a (cc (c.sum.ensures, back first, back second)))
+    ∙ sum-outcome a

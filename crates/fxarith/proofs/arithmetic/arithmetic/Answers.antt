@@ -1,0 +1,23 @@
+-- `fxarith::arithmetic::arithmetic` meets its contract. Assumes nothing.
+use native.Mathlib.Omega.{arith}
+use mathlib.Core.Path.{◌≡◌, ◌∙◌}
+use Rattle.fxtable.proofs.MeaningLaws.{accepted-at, outcome-at}
+use Rattle.fxarith.proofs.arithmetic.arithmetic.Goals as goal
+
+pub add-requires : goal.add-requires
+add-requires c = accepted-at c.in-13.is c.requires.accepted
+
+pub multiply-requires : goal.multiply-requires
+multiply-requires c = accepted-at c.in-14.is c.requires.accepted
+
+pub subtract-requires : goal.subtract-requires
+subtract-requires c = let e : c.args.code ≡ 15 = omega arith in accepted-at e c.requires.accepted
+
+pub returns-in-13 : goal.returns-in-13
+returns-in-13 c = c.add.ensures ∙ outcome-at _ _ c.in-13.is
+
+pub returns-in-14 : goal.returns-in-14
+returns-in-14 c = c.multiply.ensures ∙ outcome-at _ _ c.in-14.is
+
+pub returns-in_default : goal.returns-in_default
+returns-in_default c = let e : c.args.code ≡ 15 = omega arith in c.subtract.ensures ∙ outcome-at _ _ e
