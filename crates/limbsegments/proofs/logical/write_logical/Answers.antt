@@ -1,0 +1,9 @@
+-- `limbsegments::logical::write_logical` meets its contract: the second writer goes on where the first ends. Assumes nothing.
+use native.Mathlib.Omega.{arith}
+use Rattle.outcomes.proofs.PutsLaws.{puts-join}
+use Rattle.limbsegments.proofs.logical.write_logical.Goals as goal
+
+pub returns : goal.returns
+returns c =
+    puts-join c.write_common.ensures c.write_padded.ensures (omega arith)
+    c.min-common.ensures.0
