@@ -1,15 +1,15 @@
 -- `limbcount::count::bit_count` meets its contract. The invariant: n is the ones of the first j limbs of the magnitude. Assumes nothing.
 use Prim.Native.Nat.{◌+◌}
 use native.Mathlib.Omega.{arith}
-use mathlib.Core.Logic.{⊎_elim}
 use mathlib.Core.Path.{◌≡◌, refl, ap, ◌∙◌}
 use lib.ListN.{length}
 use mir.Syntax.{w64}
 use mir.ValLaws.{to_z-of_z}
+use borrow.Author.Rules.{rules}
 use Rattle.bits.specs.Count.{ones_below}
 use Rattle.limbcount.proofs.CountLimbs.{ones_of, ones_of-all, ones_of-le, ones_of-two, ones_of-last}
 use Rattle.limbcount.proofs.count.bit_count.Goals as goal
-use Rattle.limbcount.proofs.count.bit_count.Goals.{After-ones_of-n, After-ones_of-n-then-j-x, Joined-j-x}
+use Rattle.limbcount.proofs.count.bit_count.Goals.{After-ones_of-n, After-ones_of-n-then-j-x, Joined-j-x, then-j-x, else-j-x}
 
 pub padding-sign-requires : goal.padding-sign-requires
 padding-sign-requires c = c.requires.0
@@ -45,10 +45,12 @@ all : (c : Joined-j-x) → let xs = c.args.x.now in
     c.if-j-x.n ≡ ones_of xs (length xs)
 all c =
     let xs = c.args.x.now in
-    ⊎_elim
-    (λ w. w.3 ∙ last (record { before = record { before = record { before = c.before; if1 = w.0 }; shared-slice-known4 = w.1 }; ones-of2 = w.2 }))
-    (λ w. w.1 ∙ c.loop-j.invariant.0 ∙ ap (ones_of xs) (omega arith))
-    c.if-j-x.branch
+    elim c.if-j-x.branch [
+      | then-j-x w ↦
+          w.n-is
+          ∙ ones_of-last _ _ c.padding-sign.ensures c.requires.0 _ (λ i. search rules) c.loop-j.invariant.0 (omega arith) w.ones_of-n-then-j-x.ensures
+      | else-j-x w ↦ w.n-is ∙ c.loop-j.invariant.0 ∙ ap (ones_of xs) (omega arith)
+    ]
 
 pub from_magnitude-requires : goal.from_magnitude-requires
 from_magnitude-requires c = let xs = c.args.x.now in omega (arith, all c, ones_of-le xs (length xs))
