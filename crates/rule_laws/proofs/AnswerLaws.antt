@@ -15,14 +15,14 @@ use Rattle.rules.specs.Parse.{parse}
 use Rattle.rules.specs.Evaluate.{evaluate, runs_at}
 use Rattle.rules.specs.Answers.{read_of, read_answer, bad_rule, value_of, evaluated, rule_answer}
 use Rattle.rules.proofs.EncodeParse.{accepted-rule}
-use Rattle.rule_laws.specs.Rules.{part_of}
+use Rattle.rule_laws.specs.Rules.{PartOf}
 use Rattle.rule_laws.proofs.EvaluateLaws.{Refusing, value-fits, form-refusing}
 use Rattle.rule_laws.proofs.ParseLaws.{parse-refused}
 
 module _ (d : ℕ) (s : List ℕ) (inputs : List ℤ) where
   pub record Ways (P : RuleAnswer → ReadAnswer → Type 0) : Type 0 where
     pub bad : (o : ℕ) → parse s ≡ refused 10 o → o ≤ length s → o ≤ longest → P (bad_rule 10 o) (read_of d (refused 10 o))
-    pub met : (r : Rule) (k p : ℕ) → parse s ≡ done r → evaluate (runs_at d r) inputs r.form ≡ refused k p → Refusing (runs_at d r) inputs (part_of r) k p
+    pub met : (r : Rule) (k p : ℕ) → parse s ≡ done r → evaluate (runs_at d r) inputs r.form ≡ refused k p → Refusing (runs_at d r) inputs (PartOf r) k p
         → P (value_of (refused k p)) (read_of d (done r))
     pub finished : (r : Rule) (z : ℤ) → parse s ≡ done r → evaluate (runs_at d r) inputs r.form ≡ done z → fits (runs_at d r) z ≡ true
         → P (value_of (done z)) (read_of d (done r))

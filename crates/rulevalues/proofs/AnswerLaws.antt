@@ -1,7 +1,7 @@
 -- A leaf and a call as answers, and a rule's answer from its form's. Assumes nothing.
 use Prim.Native.Nat.{ℕ, ◌≤◌}
 use native.Mathlib.Omega.{arith}
-use mathlib.Core.Path.{◌≡◌, refl, sym, ap, ◌∙◌}
+use mathlib.Core.Path.{◌≡◌, refl}
 use mathlib.Core.Bool.{Bool, true, false, cond, ◌||◌}
 use mathlib.Core.List.{List, []}
 use lib.Dec.{eqb}
@@ -10,7 +10,7 @@ use lib.ListN.{length, drop, take}
 use lib.Seq.{length-take-le, take-take}
 use borrow.Author.Tests.{ne_eqb}
 use Rattle.bits.specs.Testbit.{fits}
-use Rattle.outcomes.specs.Outcome.{Outcome, refused, done, guard, guard_at}
+use Rattle.outcomes.specs.Outcome.{refused, guard, guard_at}
 use Rattle.fxtable.specs.declared.answer.Answer.{Answer}
 use Rattle.fxtable.specs.Calls.{counted, fixnum_answer, answer_of}
 use Rattle.fxtable.specs.Domains.{is_width, least_width, largest_width}
@@ -20,7 +20,7 @@ use Rattle.rules.specs.Tree.{Form}
 use Rattle.rules.specs.Limits.{deepest, is_stored_width}
 use Rattle.rules.specs.Parse.{read_form, parse}
 use Rattle.rules.specs.Evaluate.{fixnum, result_of, runs_at}
-use Rattle.rules.specs.Answers.{default_width, bad_rule, value_of, evaluated, rule_answer, lent_answer}
+use Rattle.rules.specs.Answers.{default_width, bad_rule, evaluated, rule_answer, lent_answer}
 use Rattle.rulereader.specs.Placed.{Begins}
 use Rattle.rulevalues.specs.declared.Evaluated.{Evaluated}
 use Rattle.rulevalues.specs.Evaluated.{told, Evaluates, answered}

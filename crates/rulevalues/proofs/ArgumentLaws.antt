@@ -1,9 +1,8 @@
 -- The arguments of a call, evaluated one by one: what the evaluator's loop keeps, and what it comes to; leaves and calls as forms. Assumes nothing.
-use Prim.Native.Nat.{ℕ, zero, suc, ◌+◌, ◌-◌, ◌≤◌, ◌<◌}
+use Prim.Native.Nat.{ℕ, suc, ◌+◌, ◌-◌, ◌≤◌, ◌<◌}
 use native.Mathlib.Omega.{arith}
-use native.Mathlib.Nat.{sub_self}
 use native.Mathlib.Numerals.{add-one}
-use mathlib.Core.Path.{◌≡◌, refl, sym, ap, ap₂, ◌∙◌}
+use mathlib.Core.Path.{◌≡◌, refl, ap, ap₂, ◌∙◌}
 use mathlib.Core.List.{List, [], ◌∷◌, ◌++◌, append_assoc, append-nil}
 use mathlib.Core.Bool.{Bool, true, false, not, cond, ◌&&◌}
 use lib.Dec.{eqb}
@@ -25,13 +24,13 @@ use Rattle.fxtable.proofs.TableLaws.{at-most-four}
 use Rattle.fixnum_laws.proofs.Closure.{results_fit}
 use Rattle.rules.specs.Limits.{is_stored_code}
 use Rattle.rules.specs.Tree.{Form, Forms, constant, input, call, none, more}
-use Rattle.rules.specs.Leb128.{Reading, got, offends}
+use Rattle.rules.specs.Leb128.{Reading, got}
 use Rattle.rules.specs.Parse.{and_then, read_constant, read_forms, read_form}
 use Rattle.rules.specs.Evaluate.{fixnum, result_of, evaluate, evaluate_all}
 use Rattle.rules.proofs.EncodeParse.{parts}
 use Rattle.rulevalues.specs.declared.Evaluated.{Evaluated}
 use Rattle.rulevalues.specs.Evaluated.{told, Has, Evaluates, EvaluatesConstant}
-use Rattle.rulevalues.proofs.ReadAgain.{FormAt, form-at, ConstantAt, constant-at, InputAt, input-at, CallAt, call_at}
+use Rattle.rulevalues.proofs.ReadAgain.{form-at, constant-at, input-at, CallAt, call_at}
 
 -- a constant or an input that is done is itself, and a fixnum
 leaf-fits : (w : ℕ) (y z : ℤ) → fixnum w y ≡ done z → fits w z ≡ true

@@ -2,8 +2,8 @@
 use Prim.Native.Nat.{ℕ, zero, suc, ◌+◌, ◌-◌, ◌≤◌, ◌<◌}
 use native.Mathlib.Omega.{arith}
 use mathlib.Core.Path.{◌≡◌, refl, sym, ap, ◌∙◌}
-use mathlib.Core.Bool.{Bool, true, false, cond, true≢false}
-use mathlib.Core.List.{List, [], ◌∷◌}
+use mathlib.Core.Bool.{Bool, true, false}
+use mathlib.Core.List.{List, []}
 use lib.Dec.{ltb}
 use lib.IntN.{ℤ}
 use lib.ListN.{length, drop, get_or, drop_of_length-le}
@@ -15,10 +15,9 @@ use Rattle.rules.specs.Limits.{is_tag, is_input, is_stored_code}
 use Rattle.rules.specs.Parse.{Head, leaf, opens, and_then, item, read_number, read_constant, after_tag, read_head, after_head, read_forms, read_form}
 use Rattle.rules.proofs.Leb128Laws.{offends-got}
 use Rattle.rules.proofs.EncodeParse.{parts}
-use Rattle.rulereader.specs.Placed.{At, Offends, Small, OneGroup, cut_off}
+use Rattle.rulereader.specs.Placed.{At, Offends, Small, cut_off}
 use Rattle.rulereader.proofs.CutLaws.{ends-early, offends-here, passes, fails}
 use Rattle.rulereader.proofs.HeadLaws.{small-tag, small-input, small-code, small_count}
-use Rattle.rulevalues.specs.Evaluated.{Has}
 
 -- nothing is read past the end
 past_end : (test : ℕ → Bool) (s : List ℕ) (i : ℕ) → length s ≤ i → read_number test (drop i s) ≡ offends 0
