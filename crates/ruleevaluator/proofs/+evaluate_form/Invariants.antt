@@ -1,0 +1,13 @@
+-- `ruleevaluator::evaluate_form` ends: the depth falls, and in its loop the arguments that are left get fewer. What the loop keeps. Assumes nothing.
+use Prim.Native.Nat.{◌-◌}
+use Rattle.rulevalues.proofs.ArgumentLaws.{Looping}
+use Rattle.ruleevaluator.proofs.+evaluate_form.Given as goal
+
+abbrev pub decreases-evaluate_form : goal.decreases-evaluate_form
+decreases-evaluate_form l = l.depth
+
+abbrev pub invariant-loop-i : goal.invariant-loop-i
+invariant-loop-i l = Looping l.width l.inputs l.s l.at l.depth l.number l.n l.i l.p l.values
+
+abbrev pub decreases-loop-i : goal.decreases-loop-i
+decreases-loop-i l = l.n - l.i
