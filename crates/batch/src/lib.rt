@@ -3,15 +3,15 @@
 
 ghost use Rattle.std.specs.Prelude.{◌≡◌, ◌≤◌, length};
 
-use output::scan::find;
 use flcalls::reply_fl;
 use fxcalls::fx::reply_fx;
 use limbcalls::bitwise::reply_bitwise;
 use line::reply::{Reply, TROUBLE, done, trouble, worse};
 use line::trouble::Expected;
 use line::{count, is_word, split};
+use output::scan::find;
 use output::{put, put_if};
-use streams::read::{INPUT, Reading, TURNS, left, read_more};
+use streams::read::{Reading, TURNS, left, read_more};
 use streams::write::{report_input, write_answer};
 
 // Answers are written when there are so many bytes of them, and before standard input is read again.
@@ -26,7 +26,7 @@ fn answer_space() -> [u8; 16384]
 
 // The worst status so far, how much of the output is filled, whether the rest of a line that is too long is passed over, and whether
 // writing failed.
-#[derive(Drop)]
+#[derive(Clone, Copy)]
 struct State {
     status: u64,
     filled: usize,
@@ -35,9 +35,9 @@ struct State {
 }
 
 // Writes the answers so far.
-fn flush(out: &mut [u8], state: State) -> State {
+fn flush(rt: &impl Print, errors: &impl Print, out: &mut [u8], state: State) -> State {
     let n = put(b"", out, state.filled);
-    let good = write_answer(&out[..n]);
+    let good = write_answer(rt, errors, &out[..n]);
     State {
         status: state.status,
         filled: 0,
@@ -87,7 +87,15 @@ fn answer_line(
 }
 
 // A line, or the rest of one that was too long.
-fn take_line(text: &[u8], line: &mut [u8], said: &mut [u8], out: &mut [u8], state: State) -> State {
+fn take_line(
+    rt: &impl Print,
+    errors: &impl Print,
+    text: &[u8],
+    line: &mut [u8],
+    said: &mut [u8],
+    out: &mut [u8],
+    state: State,
+) -> State {
     if state.skipping {
         return State {
             status: state.status,
@@ -99,19 +107,27 @@ fn take_line(text: &[u8], line: &mut [u8], said: &mut [u8], out: &mut [u8], stat
     if state.filled <= MUCH {
         return answer_line(text, line, said, out, state);
     }
-    let state = flush(out, state);
+    let state = flush(rt, errors, out, state);
     answer_line(text, line, said, out, state)
 }
 
 // What is left of the input after its whole lines: from where on.
-#[derive(Drop)]
+#[derive(Clone, Copy)]
 struct Rest {
     state: State,
     start: usize,
 }
 
 // Answers each whole line of the input.
-fn take_lines(input: &[u8], line: &mut [u8], said: &mut [u8], out: &mut [u8], first: State) -> Rest
+fn take_lines(
+    rt: &impl Print,
+    errors: &impl Print,
+    input: &[u8],
+    line: &mut [u8],
+    said: &mut [u8],
+    out: &mut [u8],
+    first: State,
+) -> Rest
     ensures { result.start ≤ length input.now }
 {
     let mut state = first;
@@ -121,7 +137,7 @@ fn take_lines(input: &[u8], line: &mut [u8], said: &mut [u8], out: &mut [u8], fi
         if input.len() <= end {
             break;
         }
-        state = take_line(&input[start..end], line, said, out, state);
+        state = take_line(rt, errors, &input[start..end], line, said, out, state);
         start = end + 1;
     }
     Rest { state, start }
@@ -143,7 +159,7 @@ fn keep(input: &mut [u8], from: usize, to: usize) -> usize {
 }
 
 // The state after whole lines, and how many bytes of input are kept.
-#[derive(Drop)]
+#[derive(Clone, Copy)]
 struct Kept {
     state: State,
     length: usize,
@@ -151,6 +167,8 @@ struct Kept {
 
 // Answers the whole lines of the input, and keeps the rest.
 fn take_input(
+    rt: &impl Print,
+    errors: &impl Print,
     input: &mut [u8],
     length: usize,
     line: &mut [u8],
@@ -159,7 +177,7 @@ fn take_input(
     state: State,
 ) -> Kept {
     let n = put(b"", input, length);
-    let rest = take_lines(&input[..n], line, said, out, state);
+    let rest = take_lines(rt, errors, &input[..n], line, said, out, state);
     let state = rest.state;
     Kept {
         state,
@@ -189,11 +207,11 @@ fn too_long(said: &mut [u8], out: &mut [u8], state: State) -> State {
 }
 
 // Input that cannot be read is trouble.
-fn after_input(good: bool, state: State) -> State {
+fn after_input(errors: &impl Print, good: bool, state: State) -> State {
     if good {
         return state;
     }
-    report_input();
+    report_input(errors);
     State {
         status: TROUBLE,
         filled: state.filled,
@@ -203,7 +221,7 @@ fn after_input(good: bool, state: State) -> State {
 }
 
 // After a read: the state, how many bytes of input are kept, and whether there is more to read.
-#[derive(Drop)]
+#[derive(Clone, Copy)]
 struct Progress {
     state: State,
     have: usize,
@@ -212,6 +230,8 @@ struct Progress {
 
 // Writes the answers, and deals with a line that is too long.
 fn settle(
+    rt: &impl Print,
+    errors: &impl Print,
     reading: Reading,
     more: bool,
     kept: usize,
@@ -220,17 +240,17 @@ fn settle(
     out: &mut [u8],
     state: State,
 ) -> Progress {
-    let state = after_input(reading.good, state);
+    let state = after_input(errors, reading.failure.is_none(), state);
     if full {
         let state = too_long(said, out, state);
-        let state = flush(out, state);
+        let state = flush(rt, errors, out, state);
         return Progress {
             state,
             have: 0,
             more: more && !state.failed,
         };
     }
-    let state = flush(out, state);
+    let state = flush(rt, errors, out, state);
     Progress {
         state,
         have: kept,
@@ -240,6 +260,8 @@ fn settle(
 
 // After a read: answers the whole lines, and keeps the rest.
 fn turn(
+    rt: &impl Print,
+    errors: &impl Print,
     input: &mut [u8],
     line: &mut [u8],
     said: &mut [u8],
@@ -249,10 +271,20 @@ fn turn(
 ) -> Progress {
     let more = last.have < reading.have;
     let state = last.state;
-    let kept = take_input(input, reading.have, line, said, out, state);
+    let kept = take_input(rt, errors, input, reading.have, line, said, out, state);
     let full = kept.length == input.len();
     let state = kept.state;
-    settle(reading, more, kept.length, full, said, out, state)
+    settle(
+        rt,
+        errors,
+        reading,
+        more,
+        kept.length,
+        full,
+        said,
+        out,
+        state,
+    )
 }
 
 const START: Progress = Progress {
@@ -267,35 +299,56 @@ const START: Progress = Progress {
 };
 
 // All whole lines.
-fn run_turns(input: &mut [u8], line: &mut [u8], said: &mut [u8], out: &mut [u8]) -> Progress {
+fn run_turns<R: Input + Print>(
+    rt: &R,
+    errors: &impl Print,
+    input: &mut [u8],
+    line: &mut [u8],
+    said: &mut [u8],
+    out: &mut [u8],
+) -> Progress {
+    let mut reader = rt.reader();
     let mut last = START;
     let mut turns = TURNS;
     while 0 < turns {
-        let reading = read_more(INPUT, input, last.have);
-        last = turn(input, line, said, out, reading, last);
+        let reading = read_more(&mut reader, input, last.have);
+        last = turn(rt, errors, input, line, said, out, reading, last);
         turns = left(last.more, turns);
     }
     last
 }
 
 // A last line without an end, and the exit status.
-fn finish(input: &[u8], line: &mut [u8], said: &mut [u8], out: &mut [u8], state: State) -> u64 {
+fn finish(
+    rt: &impl Print,
+    errors: &impl Print,
+    input: &[u8],
+    line: &mut [u8],
+    said: &mut [u8],
+    out: &mut [u8],
+    state: State,
+) -> u64 {
     if input.len() == 0 {
         return state.status;
     }
-    let state = take_line(input, line, said, out, state);
-    let state = flush(out, state);
+    let state = take_line(rt, errors, input, line, said, out, state);
+    let state = flush(rt, errors, out, state);
     if state.failed { TROUBLE } else { state.status }
 }
 
-pub fn run_batch(input: &mut [u8], out: &mut [u8]) -> u64 {
+pub fn run_batch<R: Input + Print>(
+    rt: &R,
+    errors: &impl Print,
+    input: &mut [u8],
+    out: &mut [u8],
+) -> u64 {
     let mut line = output::large_buffer();
     let mut said = answer_space();
-    let last = run_turns(input, &mut line, &mut said, out);
+    let last = run_turns(rt, errors, input, &mut line, &mut said, out);
     let state = last.state;
     if state.failed {
         return TROUBLE;
     }
     let n = put(b"", input, last.have);
-    finish(&input[..n], &mut line, &mut said, out, state)
+    finish(rt, errors, &input[..n], &mut line, &mut said, out, state)
 }

@@ -26,7 +26,7 @@ use rulecalls::reply::reply_rule;
 const VERSION: [u8; 19] = *b"ql (quebralua) 0.2\n";
 
 // What a line asks for: an answer in words, or input to be read.
-#[derive(Drop)]
+#[derive(Clone, Copy)]
 pub enum Task {
     Words,
     Batch,

@@ -11,7 +11,7 @@ use names::Table;
 use output::put;
 
 // The flonums of words. `bad` is the first word that is none, or 0.
-#[derive(Drop)]
+#[derive(Clone, Copy)]
 struct Flonums {
     bad: usize,
     expected: Expected,

@@ -3,7 +3,7 @@ use fltext::{FlonumReading, read_flonum};
 use line::trouble::Expected;
 use line::word;
 
-#[derive(Drop)]
+#[derive(Clone, Copy)]
 pub enum Flonum {
     Number(f64),
     Bad(Expected),

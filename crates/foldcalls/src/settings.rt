@@ -11,7 +11,7 @@ pub const ROTATE: u64 = 40;
 
 // The width, and the accumulator, the start, the end and the count, by their places in an opening. `every` asks for all widths, and
 // the width is then the largest. `before` is how many words stand before the files, and `bad` the first word that cannot be read, or 0.
-#[derive(Drop)]
+#[derive(Clone, Copy)]
 pub struct Settings {
     pub bad: usize,
     pub expected: Expected,

@@ -5,24 +5,35 @@ use foldcalls::answer::reply_identifier;
 use foldcalls::settings::{Settings, open};
 use line::reply::{DONE, TROUBLE, worse};
 use line::{count, count_past, word};
+use std::rt::Files;
 use streams::files::{close_file, open_file, report_file};
 use streams::write::write_out;
 
 // Folds a file. It is closed before anything is written: where standard output is closed, the file may have its number.
-fn fold_file(name: &[u8], first: Fold, buffer: &mut [u8], out: &mut [u8]) -> Folded {
-    let fd = open_file(name);
-    if fd < 0 {
-        report_file(false, name, out);
-        return Folded {
-            good: false,
-            more: false,
-            fold: first,
-        };
+fn fold_file<R: Files + Input>(
+    rt: &R,
+    errors: &impl Print,
+    name: &[u8],
+    first: Fold,
+    buffer: &mut [u8],
+    out: &mut [u8],
+) -> Folded {
+    match open_file(rt, name) {
+        Ok(mut file) => {
+            let folded = fold_all(&mut file, buffer, first);
+            close_file(file);
+            report_file(errors, folded.failure, name, out);
+            folded
+        }
+        Err(error) => {
+            report_file(errors, Some(error), name, out);
+            Folded {
+                failure: Some(error),
+                more: false,
+                fold: first,
+            }
+        }
     }
-    let folded = fold_all(fd, buffer, first);
-    report_file(folded.good, name, out);
-    close_file(name, fd);
-    folded
 }
 
 // The exit status of a file, and whether the next is to be folded: not after an answer that could not be written.
@@ -33,13 +44,21 @@ struct Step {
 }
 
 // Folds a file, and writes its answer.
-fn run_file(line: &[u8], i: usize, settings: Settings, buffer: &mut [u8], out: &mut [u8]) -> Step {
+fn run_file<R: Files + Input + Print>(
+    rt: &R,
+    errors: &impl Print,
+    line: &[u8],
+    i: usize,
+    settings: Settings,
+    buffer: &mut [u8],
+    out: &mut [u8],
+) -> Step {
     let first = open(settings).fold;
     let word = word(line, i);
     let start = word.start;
     let end = word.end;
-    let folded = fold_file(&line[start..end], first, buffer, out);
-    if !folded.good {
+    let folded = fold_file(rt, errors, &line[start..end], first, buffer, out);
+    if folded.failure.is_some() {
         return Step {
             status: TROUBLE,
             on: true,
@@ -52,7 +71,7 @@ fn run_file(line: &[u8], i: usize, settings: Settings, buffer: &mut [u8], out: &
     };
     let f = folded.fold;
     let reply = reply_identifier(settings, f, line, named, out);
-    let status = write_out(reply, out);
+    let status = write_out(rt, errors, reply, out);
     Step {
         status,
         on: status != TROUBLE,
@@ -60,12 +79,19 @@ fn run_file(line: &[u8], i: usize, settings: Settings, buffer: &mut [u8], out: &
 }
 
 // Each file that the line names.
-pub fn run_files(line: &[u8], settings: Settings, buffer: &mut [u8], out: &mut [u8]) -> u64 {
+pub fn run_files<R: Files + Input + Print>(
+    rt: &R,
+    errors: &impl Print,
+    line: &[u8],
+    settings: Settings,
+    buffer: &mut [u8],
+    out: &mut [u8],
+) -> u64 {
     let n = count(line);
     let mut status = DONE;
     let mut i = settings.before;
     while i < n {
-        let step = run_file(line, i + 1, settings, buffer, out);
+        let step = run_file(rt, errors, line, i + 1, settings, buffer, out);
         status = worse(status, step.status);
         if !step.on {
             break;

@@ -12,7 +12,7 @@ use output::{put, put_both, put_decimal, put_if, put_natural};
 use text::Reading;
 use words::sign::absolute;
 
-#[derive(Drop)]
+#[derive(Clone, Copy)]
 struct Field {
     width: u64,
     start: i64,
@@ -20,7 +20,7 @@ struct Field {
 }
 
 // A reversal, or a rotation by a count.
-#[derive(Drop)]
+#[derive(Clone, Copy)]
 struct Call {
     good: bool,
     reverse: bool,
@@ -41,7 +41,7 @@ const REVERSAL: Call = Call {
 
 // What the calls have come to: the number, the net count, whether an odd number of reversals was done, whether a call was refused, and
 // how much of the output is filled.
-#[derive(Drop)]
+#[derive(Clone, Copy)]
 struct State {
     number: i64,
     net: u64,

@@ -4,7 +4,7 @@ use super::word;
 use fxtable::width::{LARGEST_WIDTH, LEAST_WIDTH};
 use output::{put, put_if, put_natural};
 
-#[derive(Drop)]
+#[derive(Clone, Copy)]
 pub enum Expected {
     Command,
     Topic,

@@ -102,7 +102,7 @@ flextremes x .."
 }
 
 // A line of a table, counted from 1: where it begins, where its name ends and where it ends. Line 0 where there is none.
-#[derive(Drop)]
+#[derive(Clone, Copy)]
 struct Line {
     number: u64,
     start: usize,
@@ -143,7 +143,7 @@ fn find(table: &[u8], number: u64, word: &[u8]) -> Line
 }
 
 // The list that a name is looked up in.
-#[derive(Drop)]
+#[derive(Clone, Copy)]
 pub enum Table {
     Commands,
     Fixnum,
@@ -162,7 +162,7 @@ pub fn number_of(table: Table, name: &[u8]) -> u64 {
 }
 
 // A part of a line: the name, what follows it with the blank in front, or all.
-#[derive(Drop)]
+#[derive(Clone, Copy)]
 enum Part {
     Name,
     Rest,

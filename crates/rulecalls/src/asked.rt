@@ -7,7 +7,7 @@ use rulereader::heads::INPUTS;
 // The words before the inputs.
 pub const BEFORE: usize = 3;
 
-#[derive(Drop)]
+#[derive(Clone, Copy)]
 pub enum Task {
     Read,
     Run,
@@ -15,7 +15,7 @@ pub enum Task {
 }
 
 // `bad` is the first word that cannot be read, or 0. How many inputs are given; those that are not are 0.
-#[derive(Drop)]
+#[derive(Clone, Copy)]
 pub struct Asked {
     pub bad: usize,
     pub expected: Expected,

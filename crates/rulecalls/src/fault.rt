@@ -5,14 +5,14 @@ use rulereader::heads::{Head, read_head};
 use ruletext::walk::walk_form;
 
 // Where the part begins, and what the arguments are where it is a call.
-#[derive(Drop)]
+#[derive(Clone, Copy)]
 pub struct Fault {
     pub at: usize,
     pub args: [i64; 4],
 }
 
 // The arguments of a call up to one that is refused, which begins at `at`.
-#[derive(Drop)]
+#[derive(Clone, Copy)]
 struct Arguments {
     refused: bool,
     at: usize,

@@ -4,7 +4,7 @@ use text::digit::{are_digits, digit};
 
 const BASE: u64 = 16;
 
-#[derive(Drop)]
+#[derive(Clone, Copy)]
 pub enum Decoded {
     Bytes(usize),
     Odd,

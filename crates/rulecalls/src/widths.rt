@@ -8,7 +8,7 @@ use line::reply::{Reply, done, refused};
 use output::{put, put_both};
 
 // What is said of a width: the rule's value; or the refusal, its place, where the refused part begins, and the argument at that place.
-#[derive(Drop)]
+#[derive(Clone, Copy)]
 struct Said {
     refusal: u64,
     place: u64,

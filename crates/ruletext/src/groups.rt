@@ -3,7 +3,7 @@ use super::item::Kind;
 use rulereader::numbers::CONTINUED;
 
 // How many groups there are, where they end, and whether the last of them is the number's last.
-#[derive(Drop)]
+#[derive(Clone, Copy)]
 pub struct Groups {
     pub count: u64,
     pub end: usize,

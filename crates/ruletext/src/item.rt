@@ -7,7 +7,7 @@ use rulereader::is_stored_width;
 use rulereader::numbers::{Number, read_number};
 
 // `Form` is a form that is nested too deep, and `After` what stands after the rule's form.
-#[derive(Drop)]
+#[derive(Clone, Copy)]
 pub enum Kind {
     Width,
     Tag,
@@ -21,7 +21,7 @@ pub enum Kind {
 
 // Where the item begins. The code of its call: the call that an argument count is of, or that a form is an argument of, 0 where it is
 // the whole form. Which argument the form is.
-#[derive(Drop)]
+#[derive(Clone, Copy)]
 pub struct Item {
     pub kind: Kind,
     pub start: usize,

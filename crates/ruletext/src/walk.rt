@@ -9,7 +9,7 @@ pub const MOST_OPEN: usize = DEEPEST as usize;
 pub const STEPS: usize = 2 * LONGEST + 1;
 
 // What a step comes to.
-#[derive(Drop)]
+#[derive(Clone, Copy)]
 pub enum Event {
     Constant(i64),
     Input(u64),
@@ -20,7 +20,7 @@ pub enum Event {
 }
 
 // Where the next form begins, and the calls that are open: their codes, their argument counts and how many arguments are still to come.
-#[derive(Drop)]
+#[derive(Clone, Copy)]
 pub struct Walk {
     pub at: usize,
     pub ended: bool,
@@ -30,7 +30,7 @@ pub struct Walk {
     pub left: [u64; MOST_OPEN],
 }
 
-#[derive(Drop)]
+#[derive(Clone, Copy)]
 pub struct Step {
     pub event: Event,
     pub walk: Walk,

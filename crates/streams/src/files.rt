@@ -1,58 +1,71 @@
 // Files by name. The name - is standard input's.
-use super::read::INPUT;
+use super::cause::{EACCES, EISDIR, ENAMETOOLONG, ENOENT, ENOTDIR, EPERM, number, put_words};
 use super::write::{report, report_input};
 use check::same;
 use line::trouble::put_file_name;
 use output::put;
+use std::io::{ErrorKind, Read};
+use std::rt::Files;
+use std::{fs, io};
 
 fn is_input(name: &[u8]) -> bool {
     same(name, b"-")
 }
 
 // The usual causes, in words.
-fn put_cause(error: i32, out: &mut [u8], at: usize) -> usize {
-    match error {
-        libc::ENOENT | libc::ENOTDIR => put(b": no such file\n", out, at),
-        libc::EACCES | libc::EPERM => put(b": no permission\n", out, at),
-        libc::EISDIR => put(b": it is a folder\n", out, at),
-        libc::ENAMETOOLONG => put(b": the name is too long\n", out, at),
-        _ => at,
+fn put_cause(error: &io::Error, out: &mut [u8], at: usize) -> usize {
+    match number(error) {
+        ENOENT | ENOTDIR => put(b": no such file\n", out, at),
+        EACCES | EPERM => put(b": no permission\n", out, at),
+        EISDIR => put(b": it is a folder\n", out, at),
+        ENAMETOOLONG => put(b": the name is too long\n", out, at),
+        _ => put_words(error, out, at),
     }
 }
 
-// Says on standard error why a file cannot be read, if it cannot. errno is that of the call that failed.
-pub fn report_file(good: bool, name: &[u8], out: &mut [u8]) {
-    if good {
+// Says on standard error why a file cannot be read, if it cannot.
+pub fn report_file(errors: &impl Print, failure: Option<io::Error>, name: &[u8], out: &mut [u8]) {
+    let Some(error) = failure else {
         return;
-    }
+    };
     if is_input(name) {
-        report_input();
+        report_input(errors);
         return;
     }
-    let error = os::errno();
     let at = put(b"ql: '", out, 0);
     let at = put_file_name(name, out, at);
     let at = put(b"' cannot be read", out, at);
-    let end = put_cause(error, out, at);
+    let end = put_cause(&error, out, at);
     let end = put(b"", out, end);
-    if end <= at {
-        os::fail(&out[..end]);
-    } else {
-        report(&out[..end]);
+    report(errors, &out[..end]);
+}
+
+// A file that is open: standard input, or one that was opened by its name.
+#[derive(Drop)]
+pub enum Source<I, F> {
+    Input(I),
+    File(F),
+}
+
+impl<I: Read, F: Read> Read for Source<I, F> {
+    fn read(&mut self, buf: &mut [u8]) -> io::Result<usize> {
+        match self {
+            Source::Input(input) => input.read(buf),
+            Source::File(file) => file.read(buf),
+        }
     }
 }
 
-// The number of a file that is opened, below 0 where it cannot be.
-pub fn open_file(name: &[u8]) -> i32 {
+// Opens a file. The library takes a name that is UTF-8, and no other.
+pub fn open_file<R: Files + Input>(rt: &R, name: &[u8]) -> io::Result<Source<R::Reader, R::File>> {
     if is_input(name) {
-        return INPUT;
+        return Ok(Source::Input(rt.reader()));
     }
-    os::open_read(name)
+    match std::str::from_utf8(name) {
+        Ok(text) => Ok(Source::File(fs::open(rt, text)?)),
+        Err(_) => Err(io::Error::new(ErrorKind::InvalidFilename, "the name is not UTF-8")),
+    }
 }
 
 // Closes a file, but not standard input.
-pub fn close_file(name: &[u8], fd: i32) {
-    if !is_input(name) {
-        libc::close(fd);
-    }
-}
+pub fn close_file<I: Drop, F: Drop>(_file: Source<I, F>) {}
