@@ -1,0 +1,12 @@
+-- `spelling::hex_length` meets its contract: digits that are 0 go, from the first on. Assumes nothing.
+use Prim.Native.Nat.{◌*◌, ◌≤◌}
+use lib.ListN.{length}
+use Rattle.text.specs.Naturals.{natural}
+use Rattle.spelling.proofs.DigitLaws.{Below}
+use Rattle.spelling.proofs.hex_length.Given as goal
+
+abbrev pub invariant-loop-k : goal.invariant-loop-k
+invariant-loop-k l = (l.k ≤ 8 * length l.x) × Below (natural l.x) l.k
+
+abbrev pub decreases-loop-k : goal.decreases-loop-k
+decreases-loop-k l = l.k
