@@ -7,7 +7,7 @@ use fltext::number::{difference, limb_space};
 use fltext::scale::{divide_power, multiply_power};
 
 // digits * 10^(up - down), or a little more.
-#[derive(Drop)]
+#[derive(Clone, Copy)]
 pub struct Leading {
     pub digits: u64,
     pub up: u64,
@@ -15,7 +15,7 @@ pub struct Leading {
 }
 
 // A significand and how many places it is shifted, in units of the smallest flonum.
-#[derive(Drop)]
+#[derive(Clone, Copy)]
 struct Shifted {
     significand: u64,
     places: u64,

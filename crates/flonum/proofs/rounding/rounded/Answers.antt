@@ -1,15 +1,11 @@
 -- `flonum::rounding::rounded` meets its contract. Assumes nothing.
-use Rattle.std.proofs.Common.{T, sym, ap, ◌∙◌, subst, arith}
-use lib.Ieee.{binary64, fits, neg, of_bits}
+use Rattle.std.proofs.Common.{sym, ap, ◌∙◌, arith, rules}
+use lib.Ieee.{neg, of_bits}
 use Rattle.flonum.specs.Rounding.{rounded}
 use Rattle.flonum.proofs.Values.{holds, fails}
 use Rattle.flonum.proofs.NanLaws.{its-nan, no_nan}
 use Rattle.flonum.proofs.RoundingLaws.{neg-above, small-rounds, negative-rounds, large-rounds, low-rounds, zero-rounds}
 use Rattle.flonum.proofs.rounding.rounded.Goals as goal
-use Rattle.flonum.proofs.rounding.rounded.Goals.{Start}
-
-held : (c : Start) → T (fits binary64 c.args.x)
-held c = subst T (sym c.well_formed.1.0.1) tt
 
 pub returns-then-is_nan : goal.returns-then-is_nan
 unfolding rounded
@@ -38,7 +34,7 @@ returns-then-x-2 c =
 pub returns-else-x-2 : goal.returns-else-x-2
 unfolding of_bits
 returns-else-x-2 c =
-    large-rounds c.args.way c.args.x (held (goal.at.returns-else-x-2 c).Start) (holds c.if-x.true) (fails c.if-x-2.false)
+    large-rounds c.args.way c.args.x (search rules) (holds c.if-x.true) (fails c.if-x-2.false)
 
 pub returns-then-a : goal.returns-then-a
 unfolding of_bits
@@ -48,9 +44,9 @@ returns-then-a c =
 pub returns-else-a : goal.returns-else-a
 unfolding of_bits
 returns-else-a c =
-    low-rounds c.args.way c.args.x (held (goal.at.returns-else-a c).Start) (holds c.if-x-3.true) (fails c.if-a.false)
+    low-rounds c.args.way c.args.x (search rules) (holds c.if-x-3.true) (fails c.if-a.false)
 
 pub returns-else-x-3 : goal.returns-else-x-3
 unfolding of_bits
 returns-else-x-3 c =
-    zero-rounds c.args.way c.args.x (held (goal.at.returns-else-x-3 c).Start) (no_nan c.is_nan.result c.args.x c.is_nan.ensures c.if-is_nan.false) (fails c.if-x.false) (fails c.if-x-3.false)
+    zero-rounds c.args.way c.args.x (search rules) (no_nan c.is_nan.result c.args.x c.is_nan.ensures c.if-is_nan.false) (fails c.if-x.false) (fails c.if-x-3.false)
