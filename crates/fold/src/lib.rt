@@ -20,7 +20,7 @@ use run::fold_bytes;
 
 // The width, the field that is rotated, the rotation's count, and the accumulator. A record is open where code 40 would accept its fields.
 #[repr(C)]
-#[derive(Drop)]
+#[derive(Clone, Copy)]
 pub struct Fold {
     pub width: u64,
     pub start: i64,
@@ -32,21 +32,21 @@ pub struct Fold {
 // What opening answers: a refusal number, 0 for done, and the place of the field that it is refused for, or 0: accumulator 1, start 2,
 // end 3, count 4.
 #[repr(C)]
-#[derive(Drop)]
+#[derive(Clone, Copy)]
 pub struct Opened {
     pub refusal: u64,
     pub place: u64,
 }
 
 // What opening answers, and the record afterwards.
-#[derive(Drop)]
+#[derive(Clone, Copy)]
 pub struct Opening {
     pub opened: Opened,
     pub fold: Fold,
 }
 
 // What a chunk or a piece answers, and the record afterwards.
-#[derive(Drop)]
+#[derive(Clone, Copy)]
 pub struct Folding {
     pub refusal: u64,
     pub fold: Fold,
