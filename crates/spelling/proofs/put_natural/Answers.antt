@@ -30,4 +30,5 @@ pub returns : goal.returns
 returns c =
     let out = c.args.out.now in
     let k = c.hex_length-k in
-    let n = natural c.args.x.now in record { value = (ap (λ (n : ℕ). n + 2) k.ensures.0, omega arith); out_after = part-back out (48 ∷ 120 ∷ []) (omega arith) c.put_nibbles.new.1.1.0 (digits 16 k.result n) k.result c.put_nibbles.ensures ∙ ap (λ (m : ℕ). 48 ∷ 120 ∷ (digits 16 m n ++ drop (k.result + 2) out)) k.ensures.0 }
+    let n = natural c.args.x.now in
+    record { value = (ap (λ (n : ℕ). n + 2) k.ensures.0, omega arith); out_after = part-back out (48 ∷ 120 ∷ []) (omega arith) c.put_nibbles.new.out (digits 16 k.result n) k.result c.put_nibbles.ensures ∙ ap (λ (m : ℕ). 48 ∷ 120 ∷ (digits 16 m n ++ drop (k.result + 2) out)) k.ensures.0 }

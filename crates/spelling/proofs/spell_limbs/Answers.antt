@@ -1,17 +1,17 @@
 -- `spelling::spell_limbs` meets its contract: no room, or the digits after a sign or none. Assumes nothing.
 use native.Mathlib.Omega.{arith}
+use borrow.Author.Rules.{rules}
 use mathlib.Core.Path.{◌∙◌}
 use mathlib.Core.List.{[], ◌∷◌}
 use mathlib.Core.Logic.{⊎_elim}
-use lib.ListN.{length, length-set}
-use borrow.Author.Tests.{ltb-true}
+use lib.ListN.{length-set}
 use Rattle.spelling.proofs.BufferLaws.{part_length, spells-none, spells-nonnegative, spells-negative}
 use Rattle.spelling.proofs.spell_limbs.Goals as goal
 
 pub returns-then-n-eq0 : goal.returns-then-n-eq0
 returns-then-n-eq0 c =
     spells-none _ _
-    (λ h l. ⊎_elim (λ w. omega (arith, w.taken)) (λ w. let short = ltb-true (length c.args.out.now) 3 w.1.taken in omega arith) c.then-n-eq0.branch)
+    (λ h l. ⊎_elim (λ e. omega (arith, e)) (λ w. omega (arith, w)) c.then-n-eq0.either)
 
 pub returns-then-out-n : goal.returns-then-out-n
 returns-then-out-n c = spells-none _ _ (λ h l. omega arith)
@@ -19,10 +19,10 @@ returns-then-out-n c = spells-none _ _ (λ h l. omega arith)
 pub returns-then-x-n-lt2147483648 : goal.returns-then-x-n-lt2147483648
 returns-then-x-n-lt2147483648 c =
     let p = c.put_natural in
-    spells-nonnegative _ _ (λ i. (c.type_inv.x i).fits) (omega arith) (omega arith) _ _
+    spells-nonnegative _ _ (λ i. search rules) (omega arith) (omega arith) _ _
     c.if-x-n-lt2147483648.true
-    p.ensures.0.0
-    p.ensures.1
+    p.ensures.value.0
+    p.ensures.out_after
 
 pub slice_bounds-put_natural-count : goal.slice_bounds-put_natural-count
 slice_bounds-put_natural-count c = simp length-set (omega arith)
@@ -44,8 +44,8 @@ shape_of-out c = c.out-2-1.given.1 ∙ simp length-set
 pub returns : goal.returns
 returns c =
     let p = c.put_natural-2 in
-    spells-negative _ _ (λ i. (c.type_inv.x i).fits) (omega arith) (omega arith) _ _ _
+    spells-negative _ _ (λ i. search rules) (omega arith) (omega arith) _ _ _
     c.if-x-n-lt2147483648.false
     c.negate.ensures
-    p.ensures.0.0
-    p.ensures.1
+    p.ensures.value.0
+    p.ensures.out_after
