@@ -3,7 +3,7 @@ use mathlib.Core.Path.{◌≡◌, refl}
 use mathlib.Core.Bool.{true, false}
 use mathlib.Core.List.{[], ◌∷◌}
 use lib.IntN.{pos, negsuc}
-use lib.Ieee.{Float, nan, inf, fin, binary64, round, to_bits}
+use lib.Ieee.{nan, inf, fin, binary64, round, to_bits}
 use Rattle.spelling.specs.Spellings.{glyph}
 use Rattle.flspelling.specs.Spellings.{fraction, pointed, last_digit, place, decimal, power, leading, scale, magnitude, sign, text_of_bits, hex_float}
 

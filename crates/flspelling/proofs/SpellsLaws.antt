@@ -11,7 +11,6 @@ use borrow.Author.Tests.{le-leb, lt-leb}
 use Rattle.outcomes.specs.Outcome.{Outcome, done}
 use Rattle.outcomes.specs.Buffer.{afterwards, count_of}
 use Rattle.outcomes.proofs.OutcomeLaws.{passed, failed}
-use Rattle.output.specs.Put.{filled, after}
 use Rattle.output.proofs.AppendLaws.{after-whole, filled-whole}
 use Rattle.spelling.specs.Spellings.{glyph}
 use Rattle.flspelling.specs.Spellings.{fraction, pointed, last_digit, place, decimal, power, leading, scale, magnitude, sign, text_of_bits, hex_float, spelling, Spells}

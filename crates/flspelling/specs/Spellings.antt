@@ -13,7 +13,7 @@
 --   hex_float x          ==  the text of a flonum
 --   spelling x out      ==  that text; refusal 8 where the buffer has less than 24 bytes
 --   Spells x out r out' ==  r counts the bytes of that text, and they are now at the start of the buffer
-use Rattle.std.specs.Prelude.{ℕ, zero, suc, ◌+◌, ◌*◌, ◌-◌, ◌/◌, ◌%◌, ◌^◌, ◌≡◌, Bool, cond, List, [], ◌∷◌, ◌++◌, eqb, leb, ltb, length, Float}
+use Rattle.std.specs.Prelude.{ℕ, zero, suc, ◌+◌, ◌*◌, ◌-◌, ◌/◌, ◌%◌, ◌^◌, ◌≡◌, cond, List, [], ◌∷◌, ◌++◌, eqb, leb, ltb, length, Float}
 use Rattle.std.specs.Float.{binary64}
 use Rattle.std.specs.Float.Ieee.{to_bits}
 use Rattle.outcomes.specs.Outcome.{Outcome, done, guard}

@@ -1,0 +1,27 @@
+-- `flspelling::put_magnitude` meets its contract. Assumes nothing.
+use mathlib.Core.Path.{sym}
+use mathlib.Core.List.{◌++◌}
+use borrow.Author.Tests.{eq-eqb, ne_eqb, lt-ltb, le-ltb}
+use Rattle.flspelling.specs.Spellings.{leading, pointed, power, scale, magnitude}
+use Rattle.flspelling.proofs.PutsLaws.{puts_then}
+use Rattle.flspelling.proofs.put_magnitude.Goals as goal
+
+pub returns-then-m-eq0 : goal.returns-then-m-eq0
+unfolding magnitude
+returns-then-m-eq0 c =
+    rw (le-ltb _ 2047 c.if-e-ge2047.true, eq-eqb _ 0 c.if-m-eq0.true) (record { count = c.put.ensures.value; buffer = c.put.ensures.out_after })
+
+pub returns-then-e-ge2047 : goal.returns-then-e-ge2047
+unfolding magnitude
+returns-then-e-ge2047 c =
+    rw (le-ltb _ 2047 c.if-e-ge2047.true, ne_eqb _ 0 c.if-m-eq0.false) (record { count = c.put-then-e-ge2047.ensures.value; buffer = c.put-then-e-ge2047.ensures.out_after })
+
+pub returns : goal.returns
+unfolding magnitude
+returns c =
+    let e = c.args.e in
+    let m = c.args.m in
+    let s = c.scale.ensures in
+    rw (lt-ltb e 2047 c.if-e-ge2047.false)
+    (puts_then (leading e) (pointed m ++ power (scale e m)) c.put_leading-at.ensures
+    (puts_then (pointed m) (power (scale e m)) c.put_pointed-at.ensures (rw (sym s) c.put_power.ensures)))

@@ -1,0 +1,16 @@
+-- `flspelling::put_place` meets its contract. Assumes nothing.
+use mathlib.Core.Path.{sym}
+use borrow.Author.Tests.{lt-ltb, le-ltb}
+use Rattle.flspelling.specs.Spellings.{place}
+use Rattle.flspelling.proofs.put_place.Goals as goal
+
+pub returns-then-n-p : goal.returns-then-n-p
+unfolding place
+returns-then-n-p c =
+    rw (lt-ltb _ _ c.if-n-p.true) (record { count = c.put.ensures.value; buffer = c.put.ensures.out_after })
+
+pub returns : goal.returns
+unfolding place
+returns c =
+    let d = c.last_digit.ensures in
+    rw (le-ltb _ _ c.if-n-p.false, sym d) (record { count = c.put-2.ensures.value; buffer = c.put-2.ensures.out_after })

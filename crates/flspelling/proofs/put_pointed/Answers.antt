@@ -1,0 +1,17 @@
+-- `flspelling::put_pointed` meets its contract. Assumes nothing.
+use mathlib.Core.List.{[], ◌∷◌}
+use borrow.Author.Tests.{eq-eqb, ne_eqb}
+use Rattle.flspelling.specs.Spellings.{fraction, pointed}
+use Rattle.flspelling.proofs.PutsLaws.{puts_then}
+use Rattle.flspelling.proofs.put_pointed.Goals as goal
+
+pub returns-then-m-eq0 : goal.returns-then-m-eq0
+unfolding pointed
+returns-then-m-eq0 c =
+    rw (eq-eqb _ 0 c.if-m-eq0.true) (record { count = c.put.ensures.value; buffer = c.put.ensures.out_after })
+
+pub returns : goal.returns
+unfolding pointed
+returns c =
+    let m = c.args.m in
+    rw (ne_eqb m 0 c.if-m-eq0.false) (puts_then (46 ∷ []) (fraction 13 m) (record { count = c.put-at.ensures.value; buffer = c.put-at.ensures.out_after }) c.put_fraction.ensures)

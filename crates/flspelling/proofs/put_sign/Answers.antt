@@ -1,0 +1,15 @@
+-- `flspelling::put_sign` meets its contract. Assumes nothing.
+use Prim.Native.Nat.{◌^◌}
+use borrow.Author.Tests.{lt-ltb, le-ltb}
+use Rattle.flspelling.specs.Spellings.{sign}
+use Rattle.flspelling.proofs.put_sign.Goals as goal
+
+pub returns-then-b-lt9223372036854775808 : goal.returns-then-b-lt9223372036854775808
+unfolding sign
+returns-then-b-lt9223372036854775808 c =
+    rw (lt-ltb _ (2 ^ 63) c.if-b-lt9223372036854775808.true) (record { count = c.put.ensures.value; buffer = c.put.ensures.out_after })
+
+pub returns-else-b-lt9223372036854775808 : goal.returns-else-b-lt9223372036854775808
+unfolding sign
+returns-else-b-lt9223372036854775808 c =
+    rw (le-ltb _ (2 ^ 63) c.if-b-lt9223372036854775808.false) (record { count = c.put-else-b-lt9223372036854775808.ensures.value; buffer = c.put-else-b-lt9223372036854775808.ensures.out_after })
