@@ -1,0 +1,49 @@
+-- `limbs::bitwise_copy_bit` meets its contract. Assumes nothing.
+use native.Mathlib.Omega.{arith}
+use Prim.Native.Nat.{ℕ}
+use native.Mathlib.Numerals.{add-one}
+use mathlib.Core.Path.{sym, ap₂, ◌∙◌}
+use lib.IntN.{ℤ}
+use Rattle.bits.specs.Field.{copy_bit, copy_bit_field}
+use Rattle.bits.proofs.LengthBounds.{copy_bit_field-length}
+use Rattle.outcomes.specs.Outcome.{done}
+use Rattle.limbwords.specs.Value.{value}
+use Rattle.limbwords.specs.Results.{meaning, Proper}
+use Rattle.limbwords.proofs.ValueLaws.{value-small}
+use Rattle.limbstages.proofs.StageLaws.{limb-operand}
+use Rattle.limbs.specs.Operations.{copy_bit_outcome}
+use Rattle.limbs.proofs.CheckLaws.{LegalBit, new-bit-refused, new-bit-legal}
+use Rattle.limbstages.proofs.WritesLaws.{writes_as, writes-refused}
+use Rattle.limbs.proofs.bitwise_copy_bit.Goals as goal
+use Rattle.limbs.proofs.bitwise_copy_bit.Goals.{In-Legal}
+
+legal-bit : (c : In-Legal) → LegalBit c.args.x.now c.args.position c.args.bit c.in-Legal.position c.in-Legal.bit
+legal-bit c = (new-bit-legal c.args.x.now c.ranges.position c.ranges.bit c.check_new_bit.ensures c.in-Legal.is).0
+
+pub run_field-requires : goal.run_field-requires
+unfolding meaning Proper
+run_field-requires c =
+    let l = legal-bit (goal.at.run_field-requires c).In-Legal in
+    let last = l.last in
+    record { x_value = (l.first, limb-operand _); proper = ((omega arith, omega arith), omega arith); by_index = copy_bit_field-length _ _ _ _ }
+
+pub returns-in-Legal : goal.returns-in-Legal
+unfolding copy_bit_outcome copy_bit meaning
+returns-in-Legal c =
+    let x = value c.args.x.now in
+    let at = c.in-Legal.position in
+    let bit = c.in-Legal.bit in
+    let l = legal-bit (goal.at.returns-in-Legal c).In-Legal in
+    writes_as
+    ((new-bit-legal c.args.x.now c.ranges.position c.ranges.bit c.check_new_bit.ensures c.in-Legal.is).1 _
+    ∙ ap₂ (λ (n : ℕ) (z : ℤ). done (copy_bit x n z)) l.at l.new
+    ∙ ap₂ (λ (e : ℕ) (z : ℤ). done (copy_bit_field x at e z)) (sym (add-one at)) (sym (value-small bit (omega (arith, l.small)))))
+    c.run_field.ensures
+
+pub returns-in-Refused : goal.returns-in-Refused
+unfolding copy_bit_outcome
+returns-in-Refused c =
+    writes-refused _ _ (new-bit-refused _ c.ranges.position c.ranges.bit c.check_new_bit.ensures _ c.in-Refused.is) c.refuse.ensures
+
+pub overflow_add-end : goal.overflow_add-end
+overflow_add-end c = record { fits = omega (arith, (legal-bit (goal.at.overflow_add-end c).In-Legal).last) }
