@@ -23,9 +23,6 @@ put_nibbles-requires c =
     let out = c.args.out.now in
     (omega arith, omega (arith, part_length out (48 ∷ 120 ∷ []) (omega arith)))
 
-pub shape_of-out : goal.shape_of-out
-shape_of-out c = c.out-1.given.1 ∙ simp length-set
-
 pub returns : goal.returns
 returns c =
     let out = c.args.out.now in

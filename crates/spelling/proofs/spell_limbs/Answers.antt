@@ -1,7 +1,6 @@
 -- `spelling::spell_limbs` meets its contract: no room, or the digits after a sign or none. Assumes nothing.
 use native.Mathlib.Omega.{arith}
 use borrow.Author.Rules.{rules}
-use mathlib.Core.Path.{◌∙◌}
 use mathlib.Core.List.{[], ◌∷◌}
 use mathlib.Core.Logic.{⊎_elim}
 use lib.ListN.{length-set}
@@ -37,9 +36,6 @@ put_natural-requires-2 c =
 pub overflow_add-result : goal.overflow_add-result
 overflow_add-result c =
     omega (arith, part_length c.args.out.now (45 ∷ []) (omega arith))
-
-pub shape_of-out : goal.shape_of-out
-shape_of-out c = c.out-2-1.given.1 ∙ simp length-set
 
 pub returns : goal.returns
 returns c =
