@@ -1,0 +1,7 @@
+-- `quebralua::flonums::ql_flnan` meets its contract. Assumes nothing.
+use mathlib.Core.Path.{◌∙◌, ap}
+use Rattle.flonum.specs.Calls.{flat}
+use Rattle.quebralua.proofs.flonums.ql_flnan.Goals as goal
+
+pub returns : goal.returns
+returns c = c.flat.ensures ∙ ap flat c.flnan.ensures
