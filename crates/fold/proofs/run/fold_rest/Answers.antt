@@ -2,7 +2,6 @@
 -- those from the start on give, folded into the first. Assumes nothing.
 use native.Mathlib.Omega.{arith}
 use mathlib.Core.Path.{refl, sym, ◌∙◌}
-use mathlib.Core.Bool.{true}
 use Rattle.fold.proofs.RunLaws.{one_more, none_left}
 use Rattle.fold.proofs.run.fold_rest.Goals as goal
 
