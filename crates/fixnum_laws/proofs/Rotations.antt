@@ -1,6 +1,6 @@
 -- Code 40's count, on answers: a full rotation answers its number, an empty field takes the count 0 alone, and every other call answers as
 -- R6RS's own rule has it. Assumes nothing.
-use Prim.Native.Nat.{ℕ, zero-le, ◌-◌, ◌≤◌, ◌<◌}
+use Prim.Native.Nat.{ℕ, zero-le, ◌-◌, ◌≤◌}
 use native.Mathlib.Nat.{le_of_lt, le_refl, le_antisymm}
 use native.Mathlib.Omega.{arith}
 use mathlib.Core.Path.{◌≡◌, refl, sym, ap, ◌∙◌}

@@ -1,5 +1,5 @@
 -- A piece that is folded by itself from 0 is joined as if its bytes had come. Assumes nothing.
-use Prim.Native.Nat.{ℕ, ◌-◌}
+use Prim.Native.Nat.{ℕ}
 use mathlib.Core.Path.{◌≡◌, refl, sym, ap, subst, ◌∙◌}
 use mathlib.Core.Bool.{Bool, true, false}
 use mathlib.Core.List.{List}
@@ -9,7 +9,7 @@ use Rattle.bits.specs.Testbit.{fits}
 use Rattle.bits.specs.Logical.{bitwise_xor}
 use Rattle.fold.specs.declared.Fold.{Fold}
 use Rattle.fold.specs.Fold.{AllBytes, with_accumulator, is_open}
-use Rattle.fold.specs.Calls.{after, folding, net_count, joined, joining}
+use Rattle.fold.specs.Calls.{after, folding, net_count, joining}
 use Rattle.fold.proofs.CallLaws.{not-open-folding, not-open-joining}
 use Rattle.fold.proofs.JoinLaws.{rotated_by, joining-open}
 use Rattle.fold.proofs.OpenLaws.{open-field}

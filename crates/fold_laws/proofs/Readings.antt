@@ -9,7 +9,7 @@ use Rattle.outcomes.proofs.OutcomeLaws.{passed, refused-done, done-injective}
 use Rattle.fold.specs.declared.Fold.{Fold}
 use Rattle.fold.specs.declared.Folding.{Folding}
 use Rattle.fold.specs.Fold.{AllBytes, settings, with_accumulator, is_open, fold_bytes}
-use Rattle.fold.specs.Calls.{zeros, opening, after, folding, read_outcome, identifier}
+use Rattle.fold.specs.Calls.{zeros, after, folding, read_outcome, identifier}
 use Rattle.fold.proofs.IntegerFold.{accumulate}
 use Rattle.fold.proofs.ByteLaws.{fold_bytes-is, open-bytes}
 use Rattle.fold_laws.proofs.Runs.{folding-open}

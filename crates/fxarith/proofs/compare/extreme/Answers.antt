@@ -1,8 +1,10 @@
 -- `fxarith::compare::extreme` meets its contract. Assumes nothing.
 use native.Mathlib.Omega.{arith}
 use mathlib.Core.Path.{◌≡◌, sym, ap, ◌∙◌}
-use mathlib.Core.List.{[]}
+use mathlib.Core.List.{List, []}
+use Prim.Native.Nat.{ℕ, ◌<◌, ◌^◌}
 use lib.IntN.{ℤ}
+use lib.Signed.{mag}
 use mir.Syntax.{w64}
 use mir.Val.{to_z, of_z}
 use Rattle.words.proofs.WordLaws.{back-word}
@@ -13,22 +15,21 @@ use Rattle.fxtable.specs.Operations.{every, fold_from, largest, smallest}
 use Rattle.fxstages.specs.Inner.{step}
 use Rattle.fxtable.specs.Table.{row, rows, row_of}
 use Rattle.fxtable.specs.Calls.{counted}
+use Rattle.fxtable.specs.Inner.{Accepted}
 use Rattle.fxtable.proofs.CallLaws.{between, arg-counted}
 use Rattle.fxtable.proofs.MeaningLaws.{arity-row}
 use Rattle.fxtable.proofs.TableLaws.{at-most-four}
 use Rattle.fxstages.proofs.LoopLaws.{fold-answer}
 use Rattle.fxarith.proofs.compare.extreme.Goals as goal
-use Rattle.fxarith.proofs.compare.extreme.Goals.{After-x-1}
 
 -- the fold starts from the first argument, which is the first slot
-from_first : (fold : Fold) (c : After-x-1) → row_of c.args.code ≡ row 1 4 [] 0 (every (λ ys. fold_from (step fold) (arg ys 0) ys))
-    → fold_from (step fold) (arg (counted c.args.args c.args.count) 0) (counted c.args.args c.args.count)
-    ≡ fold_from (step fold) (to_z w64 (of_z w64 (arg c.args.args 0))) (counted c.args.args c.args.count)
+from_first : (fold : Fold) {w code n : ℕ} {xs : List ℤ} → Accepted w code xs n → mag (arg xs 0) < 2 ^ 63
+    → row_of code ≡ row 1 4 [] 0 (every (λ ys. fold_from (step fold) (arg ys 0) ys))
+    → fold_from (step fold) (arg (counted xs n) 0) (counted xs n) ≡ fold_from (step fold) (to_z w64 (of_z w64 (arg xs 0))) (counted xs n)
 unfolding arg
-from_first fold c e =
-    let a = c.args in
-    ap (λ (x : ℤ). fold_from (step fold) x (counted a.args a.count))
-    (arg-counted a.args a.count 0 (between 1 a.count 4 (arity-row e c.requires.accepted)).0 ∙ sym (back-word (arg a.args 0) c.x-1.given))
+from_first fold {n = n} {xs = xs} a h e =
+    ap (λ (x : ℤ). fold_from (step fold) x (counted xs n))
+    (arg-counted xs n 0 (between 1 n 4 (arity-row e a)).0 ∙ sym (back-word (arg xs 0) h))
 
 pub fold_all-requires : goal.fold_all-requires
 fold_all-requires c = at-most-four c.args.code c.args.count c.requires.accepted.arity
@@ -40,11 +41,11 @@ pub returns-then-code-eq11 : goal.returns-then-code-eq11
 unfolding rows row_of arg step largest
 returns-then-code-eq11 c =
     let e = ap row_of c.if-code-eq11.true in
-    fold-answer largest Largest _ _ _ _ e (from_first Largest c.before.before.before e) c.done.ensures c.fold_all.type_inv c.fold_all.ensures
+    fold-answer largest Largest _ _ _ _ e (from_first Largest c.requires.accepted (omega arith) e) c.done.ensures c.fold_all.type_inv c.fold_all.ensures
 
 pub returns-else-code-eq11 : goal.returns-else-code-eq11
 unfolding rows row_of arg step smallest
 returns-else-code-eq11 c =
     let k : c.args.code ≡ 12 = omega arith in
     let e = ap row_of k in
-    fold-answer smallest Smallest _ _ _ _ e (from_first Smallest c.before.before.before e) c.done-else-code-eq11.ensures c.fold_all-else-code-eq11.type_inv c.fold_all-else-code-eq11.ensures
+    fold-answer smallest Smallest _ _ _ _ e (from_first Smallest c.requires.accepted (omega arith) e) c.done-else-code-eq11.ensures c.fold_all-else-code-eq11.type_inv c.fold_all-else-code-eq11.ensures

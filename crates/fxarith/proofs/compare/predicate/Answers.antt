@@ -28,7 +28,7 @@ tested : (p : ℤ → ℕ → Bool) (c : After-absolute-n)
     ≡ answer (outcome c.args.width c.args.code (counted c.args.args c.args.count))
 unfolding arg
 tested p c e =
-    let x = back-word (arg c.args.args 0) c.x-1.given in
+    let x = back-word (arg c.args.args 0) (omega arith) in
     done-cong (ap₂ (λ (y : ℤ) (n : ℕ). truth (p y n)) x (c.absolute-n.ensures ∙ ap nat_abs x)) refl
     ∙ never-checked c.args.width _
     ∙ one-outcome (λ v y. truth (p y (nat_abs y))) e c.requires.accepted

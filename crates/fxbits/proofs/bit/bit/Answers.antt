@@ -13,7 +13,7 @@ use Rattle.words.proofs.WordLaws.{back-word}
 use Rattle.outcomes.specs.Outcome.{done}
 use Rattle.fxtable.specs.Calls.{answer, counted, outcome}
 use Rattle.fxtable.specs.Domains.{arg, domain_at}
-use Rattle.fxtable.specs.Operations.{truth, question}
+use Rattle.fxtable.specs.Operations.{truth}
 use Rattle.fxtable.specs.Table.{rows, row_of}
 use Rattle.fxtable.proofs.CallLaws.{width-bounds, done-cong, done-word, never-checked}
 use Rattle.fxtable.proofs.MeaningLaws.{two-outcome, three-outcome}
@@ -30,11 +30,11 @@ start c = c.before.before.before
 -- the number, and the position
 number : (c : After-absolute-k) → to_z w64 (of_z w64 (arg (start c).args.args 0)) ≡ arg (start c).args.args 0
 unfolding arg
-number c = back-word (arg (start c).args.args 0) c.x-1.given
+number c = back-word (arg (start c).args.args 0) (omega arith)
 
 position : (c : After-absolute-k) → c.absolute-k.result ≡ nat_abs (arg (start c).args.args 1)
 unfolding arg
-position c = c.absolute-k.ensures ∙ ap nat_abs (back-word (arg (start c).args.args 1) c.absolute-arg-1.given)
+position c = c.absolute-k.ensures ∙ ap nat_abs (back-word (arg (start c).args.args 1) (omega arith))
 
 bounds : (c : After-absolute-k) → (c.absolute-k.result < (start c).args.width) × (24 ≤ (start c).args.width) × ((start c).args.width ≤ 64)
 bounds c =
@@ -52,7 +52,7 @@ new : (c : After-absolute-bit) → (pos c.absolute-bit.result ≡ arg (start (at
 unfolding arg rows row_of domain_at
 new c =
     let b = new-bit (start (at c)).requires.accepted (ap (λ (k : ℕ). domain_of k 2) (code c)) in
-    let e = c.absolute-bit.ensures ∙ ap nat_abs (back-word (arg (start (at c)).args.args 2) c.absolute-arg-2-1.given) in
+    let e = c.absolute-bit.ensures ∙ ap nat_abs (back-word (arg (start (at c)).args.args 2) (omega arith)) in
     (ap pos e ∙ natural-pos (arg (start (at c)).args.args 2) b.0, omega (arith, e, b.1))
 
 -- what the call answers, of the words

@@ -20,8 +20,8 @@ start c = c.before.before.before.before.before
 words : (c : After-absolute-end) → FieldWords (start c).args.args c.absolute-start.result c.absolute-end.result
 unfolding arg rows row_of domain_at
 words c =
-    field-words (field (start c).requires refl refl) c.x-1.given c.absolute-arg-1.given
-    c.absolute-arg-2-1.given c.absolute-start.ensures c.absolute-end.ensures
+    field-words (field (start c).requires refl refl) (omega arith) (omega arith)
+    (omega arith) c.absolute-start.ensures c.absolute-end.ensures
 
 pub overflow_sub-end : goal.overflow_sub-end
 overflow_sub-end c = (words c.before).bounds.0
@@ -38,6 +38,6 @@ returns c =
     done-never _ c.done.ensures c.copy_bit_field.type_inv
     (c.copy_bit_field.ensures
     ∙ copy_bit_field-put _ _ _ _ c.low_bits-source.ensures
-    ∙ ap (copy_bit_field _ _ _) (back (record { sfits = c.low_bits-arg-1.given }))
+    ∙ ap (copy_bit_field _ _ _) (back (record { sfits = omega arith }))
     ∙ on-field (words c.before.before.before.before) (λ x s e. copy_bit_field x s e (arg (start c.before.before.before.before).args.args 3)))
     ∙ four-outcome (λ v x s e y. copy_bit_field x (nat_abs s) (nat_abs e) y) refl (start c.before.before.before.before).requires

@@ -21,8 +21,8 @@ start c = c.before.before.before.before.before
 words : (c : After-absolute-end) → FieldWords (start c).args.args c.absolute-start.result c.absolute-end.result
 unfolding arg rows row_of domain_at
 words c =
-    field-words (field (start c).requires refl refl) c.x-1.given c.absolute-arg-1.given
-    c.absolute-arg-2-1.given c.absolute-start.ensures c.absolute-end.ensures
+    field-words (field (start c).requires refl refl) (omega arith) (omega arith)
+    (omega arith) c.absolute-start.ensures c.absolute-end.ensures
 
 count : (c : After-absolute-c)
     → (pos c.absolute-c.result ≡ arg (start c.before.before).args.args 3)
@@ -31,7 +31,7 @@ unfolding arg rows row_of domain_at
 count c =
     let f = words c.before.before in
     let r = rotation (start c.before.before).requires (field (start c.before.before).requires refl refl) refl in
-    let e = c.absolute-c.ensures ∙ ap nat_abs (back-word (arg (start c.before.before).args.args 3) c.absolute-arg-3-1.given) in
+    let e = c.absolute-c.ensures ∙ ap nat_abs (back-word (arg (start c.before.before).args.args 3) (omega arith)) in
     (ap pos e ∙ natural-pos (arg (start c.before.before).args.args 3) r.0, omega (arith, e, f.first, f.last, r.1))
 
 pub rotate_bit_field-requires : goal.rotate_bit_field-requires

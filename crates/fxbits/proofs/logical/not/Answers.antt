@@ -1,4 +1,5 @@
 -- `fxbits::logical::not` meets its contract. Assumes nothing.
+use native.Mathlib.Omega.{arith}
 use mathlib.Core.Path.{refl, ◌∙◌}
 use Rattle.bits.specs.Logical.{bitwise_not}
 use Rattle.words.proofs.WordLaws.{not-word}
@@ -12,6 +13,6 @@ pub returns : goal.returns
 unfolding rows row_of arg
 returns c =
     c.done.ensures
-    ∙ done-cong (not-word (record { sfits = c.x-1.given })) refl
+    ∙ done-cong (not-word (record { sfits = omega arith })) refl
     ∙ never-checked _ _
     ∙ one-outcome (λ v x. bitwise_not x) refl c.requires

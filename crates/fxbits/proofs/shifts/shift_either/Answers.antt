@@ -1,4 +1,5 @@
 -- `fxbits::shifts::shift_either` meets its contract. Assumes nothing.
+use native.Mathlib.Omega.{arith}
 use mathlib.Core.Path.{◌≡◌, refl, sym, ap, ◌∙◌}
 use lib.Dec.{lit<}
 use Rattle.bits.specs.Testbit.{is_negative}
@@ -19,11 +20,11 @@ start c = c.before.before.before
 
 words : (c : After-absolute-k) → ShiftWords (start c).args.args c.absolute-k.result
 unfolding arg rows row_of domain_at
-words c = shift-words (signed-distance-lt (start c).requires refl) c.x-1.given c.distance-1.given c.absolute-k.ensures
+words c = shift-words (signed-distance-lt (start c).requires refl) (omega arith) (omega arith) c.absolute-k.ensures
 
 sign : (c : After-is_negative) → is_negative (arg (start c.before).args.args 1) ≡ c.is_negative.result
 unfolding arg
-sign c = sym (c.is_negative.ensures ∙ ap is_negative (back-word (arg (start c.before).args.args 1) c.distance-1.given))
+sign c = sym (c.is_negative.ensures ∙ ap is_negative (back-word (arg (start c.before).args.args 1) (omega arith)))
 
 pub right-requires : goal.right-requires
 right-requires c = (words c.before.before).bound

@@ -1,4 +1,5 @@
 -- `fxbits::shifts::shift_left` meets its contract. Assumes nothing.
+use native.Mathlib.Omega.{arith}
 use mathlib.Core.Path.{refl, ◌∙◌}
 use lib.IntN.{nat_abs}
 use Rattle.bits.specs.Shift.{shift_left}
@@ -16,7 +17,7 @@ start c = c.before.before.before
 
 words : (c : After-absolute) → ShiftWords (start c).args.args c.absolute.result
 unfolding arg rows row_of domain_at
-words c = shift-words (distance-lt (start c).requires refl) c.x-1.given c.absolute-arg-1.given c.absolute.ensures
+words c = shift-words (distance-lt (start c).requires refl) (omega arith) (omega arith) c.absolute.ensures
 
 pub left-requires : goal.left-requires
 left-requires c = ((start c).requires.width, (words c).bound)

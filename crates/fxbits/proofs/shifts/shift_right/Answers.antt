@@ -1,4 +1,5 @@
 -- `fxbits::shifts::shift_right` meets its contract. Assumes nothing.
+use native.Mathlib.Omega.{arith}
 use mathlib.Core.Path.{refl, ◌∙◌}
 use lib.IntN.{nat_abs}
 use Rattle.bits.specs.Shift.{shift_right}
@@ -16,7 +17,7 @@ start c = c.before.before.before
 
 words : (c : After-absolute) → ShiftWords (start c).args.args c.absolute.result
 unfolding arg rows row_of domain_at
-words c = shift-words (distance-lt (start c).requires refl) c.x-1.given c.absolute-arg-1.given c.absolute.ensures
+words c = shift-words (distance-lt (start c).requires refl) (omega arith) (omega arith) c.absolute.ensures
 
 pub right-requires : goal.right-requires
 right-requires c = (words c).bound

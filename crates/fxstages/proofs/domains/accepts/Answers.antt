@@ -37,8 +37,8 @@ overflow_sub-last-in-SignedDistance c =
 pub overflow_sub-args : goal.overflow_sub-args
 unfolding arg
 overflow_sub-args c =
-    let end : SFits w64 (arg c.args.args 2) = record { sfits = c.is_rotation-arg-in-Rotation-1.given } in
-    rw (back-word (arg c.args.args 2) c.is_rotation-arg-in-Rotation-1.given, back-word (arg c.args.args 1) c.is_rotation-arg-in-Rotation-2-1.given)
+    let end : SFits w64 (arg c.args.args 2) = record { sfits = omega arith } in
+    rw (back-word (arg c.args.args 2) (omega arith), back-word (arg c.args.args 1) (omega arith))
     (field-size (arg c.args.args 1) (arg c.args.args 2) (c.requires.args_value c.in-Rotation.is) end)
 
 pub returns-in-Fixnum : goal.returns-in-Fixnum
@@ -48,43 +48,43 @@ returns-in-Fixnum c = arm _ _ _ c.in-Fixnum.is
 pub returns-in-Divisor : goal.returns-in-Divisor
 unfolding accepts arg
 returns-in-Divisor c =
-    ap (ltb 0) (c.absolute.ensures ∙ ap nat_abs (back-word (arg c.args.args c.args.i) c.absolute-arg-1.given))
+    ap (ltb 0) (c.absolute.ensures ∙ ap nat_abs (back-word (arg c.args.args c.args.i) (omega arith)))
     ∙ arm _ _ _ c.in-Divisor.is
 
 pub returns-in-Position : goal.returns-in-Position
 unfolding accepts arg
 returns-in-Position c =
-    (rw (back-word (arg c.args.args c.args.i) c.within-arg-1.given, (last c.args.width c.requires.width_value.0)) at c.within.ensures)
+    (rw (back-word (arg c.args.args c.args.i) (omega arith), (last c.args.width c.requires.width_value.0)) at c.within.ensures)
     ∙ arm _ _ _ c.in-Position.is
 
 pub returns-in-FieldEnd : goal.returns-in-FieldEnd
 unfolding accepts arg
 returns-in-FieldEnd c =
-    (rw (back-word (arg c.args.args 1) c.within-arg-in-FieldEnd-1.given, back-word (arg c.args.args c.args.i) c.within-arg-in-FieldEnd-2-1.given, (last c.args.width c.requires.width_value.0)) at c.within-in-FieldEnd.ensures)
+    (rw (back-word (arg c.args.args 1) (omega arith), back-word (arg c.args.args c.args.i) (omega arith), (last c.args.width c.requires.width_value.0)) at c.within-in-FieldEnd.ensures)
     ∙ arm _ _ _ c.in-FieldEnd.is
 
 pub returns-in-NewBit : goal.returns-in-NewBit
 unfolding accepts arg
 returns-in-NewBit c =
-    (rw (back-word (arg c.args.args c.args.i) c.within-arg-in-NewBit-1.given) at c.within-in-NewBit.ensures)
+    (rw (back-word (arg c.args.args c.args.i) (omega arith)) at c.within-in-NewBit.ensures)
     ∙ arm _ _ _ c.in-NewBit.is
 
 pub returns-in-SignedDistance : goal.returns-in-SignedDistance
 unfolding accepts arg
 returns-in-SignedDistance c =
-    (rw ((last c.args.width c.requires.width_value.0), (negated-last c.args.width c.requires.width_value.0).0, back-word (arg c.args.args c.args.i) c.within-arg-in-SignedDistance-1.given) at c.within-in-SignedDistance.ensures)
+    (rw ((last c.args.width c.requires.width_value.0), (negated-last c.args.width c.requires.width_value.0).0, back-word (arg c.args.args c.args.i) (omega arith)) at c.within-in-SignedDistance.ensures)
     ∙ arm _ _ _ c.in-SignedDistance.is
 
 pub returns-in-Distance : goal.returns-in-Distance
 unfolding accepts arg
 returns-in-Distance c =
-    (rw (back-word (arg c.args.args c.args.i) c.within-arg-in-Distance-1.given, (last c.args.width c.requires.width_value.0)) at c.within-in-Distance.ensures)
+    (rw (back-word (arg c.args.args c.args.i) (omega arith), (last c.args.width c.requires.width_value.0)) at c.within-in-Distance.ensures)
     ∙ arm _ _ _ c.in-Distance.is
 
 pub returns-in-Rotation : goal.returns-in-Rotation
 unfolding accepts arg
 returns-in-Rotation c =
-    let end = back-word (arg c.args.args 2) c.is_rotation-arg-in-Rotation-1.given in
-    let start = back-word (arg c.args.args 1) c.is_rotation-arg-in-Rotation-2-1.given in
-    (rw (back-word (arg c.args.args c.args.i) c.is_rotation-arg-1.given, end, start, rw (end, start) at (back (overflow_sub-args c.before))) at c.is_rotation.ensures)
+    let end = back-word (arg c.args.args 2) (omega arith) in
+    let start = back-word (arg c.args.args 1) (omega arith) in
+    (rw (back-word (arg c.args.args c.args.i) (omega arith), end, start, rw (end, start) at (back (overflow_sub-args c.before))) at c.is_rotation.ensures)
     ∙ arm _ _ _ c.in-Rotation.is

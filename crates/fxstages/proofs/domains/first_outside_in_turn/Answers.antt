@@ -1,7 +1,6 @@
 -- `fxstages::domains::first_outside_in_turn` meets its contract. Assumes nothing.
 use native.Mathlib.Omega.{arith}
 use mathlib.Core.Path.{sym, ◌∙◌}
-use Rattle.fxtable.specs.Domains.{accepts}
 use Rattle.fxstages.proofs.DomainLaws.{signature-domains}
 use Rattle.fxstages.proofs.TurnLaws.{none_yet, one_more, stops, ends, tested, behind}
 use Rattle.fxstages.proofs.domains.first_outside_in_turn.Goals as goal

@@ -19,4 +19,4 @@ unfolding arg
 returns c =
     let a = c.args in
     c.is_fixnum.ensures
-    ∙ ap (fits a.width) (back (record { sfits = c.is_fixnum-arg-1.given }) ∙ sym (arg-counted a.args a.count a.i c.if-count-i.false))
+    ∙ ap (fits a.width) (back (record { sfits = omega arith }) ∙ sym (arg-counted a.args a.count a.i c.if-count-i.false))

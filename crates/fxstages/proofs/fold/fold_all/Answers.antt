@@ -18,8 +18,8 @@ use Rattle.fxstages.proofs.fold.fold_all.Goals as goal
 pub returns-then-count-eq2 : goal.returns-then-count-eq2
 unfolding arg
 returns-then-count-eq2 c =
-    let x = back-word (arg c.args.args 0) c.combine-arg-1.given in
-    let y = back-word (arg c.args.args 1) c.combine-arg-then-count-eq2-1.given in
+    let x = back-word (arg c.args.args 0) (omega arith) in
+    let y = back-word (arg c.args.args 1) (omega arith) in
     let one : c.combine-value.result ≡ step c.args.fold c.args.first (arg c.args.args 0) = rw (back c.ranges.first, x) at c.combine-value.ensures in
     let two : c.combine.result ≡ step c.args.fold c.combine-value.result (arg c.args.args 1) =
     rw (back-word c.combine-value.result c.combine-value.type_inv, y) at c.combine.ensures in
@@ -37,7 +37,7 @@ loop-i-preserved c =
     let l = c.loop-i in
     let next : step c.args.fold (to_z w64 l.value-bits) (arg c.args.args l.i) ≡ to_z w64 (of_z w64 c.combine-value-in-loop-i.result) =
     sym (back-word c.combine-value-in-loop-i.result c.combine-value-in-loop-i.type_inv
-    ∙ (rw (back-word (arg c.args.args l.i) c.combine-arg-in-loop-i-1.given) at c.combine-value-in-loop-i.ensures)) in (
+    ∙ (rw (back-word (arg c.args.args l.i) (omega arith)) at c.combine-value-in-loop-i.ensures)) in (
       omega arith,
       l.invariant.1
           ∙ fold_step c.args.args c.args.count c.well_formed.1.1.0.1.0.1 c.requires (step c.args.fold) (to_z w64 l.value-bits) l.i c.loop-i-test.true

@@ -3,8 +3,6 @@
 use Prim.Native.Nat.{◌-◌, ◌≤◌}
 use mathlib.Core.Path.{◌≡◌}
 use lib.ListN.{drop}
-use mir.Syntax.{w64}
-use mir.Val.{to_z}
 use Rattle.fxtable.specs.Operations.{fold_from}
 use Rattle.fxstages.specs.Inner.{step}
 use Rattle.fxtable.specs.Calls.{counted}
