@@ -20,21 +20,20 @@ done
 here=$(CDPATH='' cd -- "$(dirname -- "$file")" && pwd -P) || fail "its folder cannot be entered"
 program=$here/target/bin/ql
 
-# Whether the program is there, and no file that it is made from has changed since.
+# Whether the program is there, and no file that it is made from has changed since. What rt keeps of its work in crates/*/out is none of them.
 is_built() {
-    [ -x "$program" ] && [ -z "$(find "$here/crates" "$here/crates.txt" -type f -newer "$program" | head -n 1)" ]
+    [ -x "$program" ] && [ -z "$(find "$here/crates" "$here/crates.txt" -name out -prune -o -type f -newer "$program" -print | head -n 1)" ]
 }
 
-# Proves the library, and links it with the one function in C that calls it.
+# Proves the program and all below it, builds it, and takes it to where it is run.
 build() {
     command -v rt >/dev/null || fail "'rt' of the Rattle kit is not on the PATH, and only it can build ql"
     mkdir -p "$here/target/bin" 2>/dev/null && [ -w "$here/target/bin" ] || fail "it is not built, and $here/target cannot be written"
     echo 'ql: proving and building the command; from nothing this takes some 13 minutes, and a line is printed as each part is proved' >&2
     log=$here/target/ql.log
-    { (cd "$here" && rt staticlib ql) 2>&1 || echo 'rt: failed'; } | tee "$log" | grep --line-buffered '^rt: ' >&2
-    beside=$(sed -n 's/^rt: .*; link \(.*\) beside it$/\1/p' "$log")
-    [ -n "$beside" ] || fail "it was not built: $log says why"
-    gcc -O2 -o "$program.new" "$here/crates/ql/main.c" "$here/target/staticlib/libql.a" $beside && mv "$program.new" "$program" || fail "it could not be linked"
+    { (cd "$here/crates/ql" && rt run -- --version </dev/null) 2>&1 || echo 'rt: failed'; } | tee "$log" | grep --line-buffered '^rt: ' >&2
+    ! grep -q '^rt: failed$' "$log" && [ -x "$here/crates/ql/out/ql" ] || fail "it was not built: $log says why"
+    cp "$here/crates/ql/out/ql" "$program.new" && mv "$program.new" "$program" || fail "$program could not be written"
 }
 
 is_built || build
