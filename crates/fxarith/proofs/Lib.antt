@@ -1,4 +1,5 @@
 -- Laws of each family.
+pub mod CountLaws
 pub mod ChainLaws
 pub mod ArithmeticLaws
 pub mod DivisionRows

@@ -68,6 +68,7 @@ pub fn predicate(width: u64, code: u64, args: [i64; 4], count: u64) -> Answer
 }
 
 // fxmax fxmin
+#[tactic(auto, using(crate::proofs::CountLaws::four_at_most))]
 pub fn extreme(width: u64, code: u64, args: [i64; 4], count: u64) -> Answer
     requires accepted { Accepted width code args count }
     requires le_code { (11 ≤ code) × (code ≤ 12) }

@@ -4,3 +4,4 @@ pub mod DomainLaws
 pub mod ArgumentLaws
 pub mod LoopLaws
 pub mod TurnLaws
+pub mod ExactLaws

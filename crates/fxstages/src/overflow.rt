@@ -23,6 +23,7 @@ pub fn checked(overflow: u64, width: u64, negative: bool, n: u64, second: i64) -
 }
 
 // A result of two words.
+#[tactic(auto, using(crate::proofs::ExactLaws::two_words, crate::proofs::ExactLaws::one_word_checked))]
 pub fn exact(overflow: u64, width: u64, s: Wide) -> Answer
     requires { (is_width width ≡ true) × (0 < overflow) }
     ensures { result ≡ answer (calls.checked overflow width (wide_value s, pos 0)) }

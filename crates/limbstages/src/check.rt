@@ -42,6 +42,7 @@ pub enum NewBit {
 }
 
 // Limbs that trim takes.
+#[tactic(auto, unfolding(crate::specs::Stages::has_limbs, crate::specs::Stages::most_limbs))]
 pub fn has_limbs(x: &[u32]) -> bool
     ensures { result ≡ has_limbs x.now }
 {

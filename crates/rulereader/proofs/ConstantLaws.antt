@@ -1,7 +1,7 @@
 -- Constants, group by group, in positions. Assumes nothing.
 use Prim.Native.Nat.{ℕ, suc, ◌+◌, ◌-◌, ◌*◌, ◌^◌, ◌≤◌, ◌<◌}
 use native.Mathlib.Omega.{arith}
-use mathlib.Core.Path.{◌≡◌, refl, ap, ◌∙◌}
+use mathlib.Core.Path.{◌≡◌, refl, sym, ap, ◌∙◌}
 use mathlib.Core.Bool.{Bool, true, false, cond}
 use mathlib.Core.List.{List, ◌∷◌}
 use lib.Dec.{ltb, leb}
@@ -62,6 +62,13 @@ module _ (start : ℕ) (negative : Bool) (n p g : ℕ) where
   pub join_kept : n < 2 ^ 56 → 64 ≤ joined_magnitude → Groups.Value negative joined_magnitude p ≡ joined_group start negative n p g
   unfolding joined_group
   join_kept l h = rw (lt-leb (2 ^ 56) n l, le-ltb joined_magnitude 64 h) refl
+
+  -- the same of a part r that is known to be the group's
+  pub part_padded : (r : ℕ) → r ≡ cond negative (127 - g) g → n < 2 ^ 56 → n * 128 + r < 64 → joined_group start negative n p g ≡ Groups.Offends start
+  part_padded r e l h = let f : joined_magnitude < 64 = rw e at h in sym (join-padded l f)
+
+  pub part_kept : (r : ℕ) → r ≡ cond negative (127 - g) g → n < 2 ^ 56 → 64 ≤ n * 128 + r → joined_group start negative n p g ≡ Groups.Value negative (n * 128 + r) p
+  part_kept r e l h = let f : 64 ≤ joined_magnitude = rw e at h in rw e (sym (join_kept l f))
 
 -- ---- on readings
 

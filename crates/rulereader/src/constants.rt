@@ -31,6 +31,7 @@ fn part(negative: bool, g: u64) -> u64
 }
 
 // A group g before those of an integer that ends before p: the number begins at `start`.
+#[tactic(auto, using(crate::proofs::ConstantLaws::part_padded, crate::proofs::ConstantLaws::part_kept))]
 fn join(start: usize, negative: bool, n: u64, p: usize, g: u64) -> Groups
     requires { g < 128 }
     ensures { result ≡ joined_group start negative n p g }

@@ -18,7 +18,6 @@ use Rattle.fxtable.specs.Calls.{counted}
 use Rattle.fxtable.specs.Inner.{Accepted}
 use Rattle.fxtable.proofs.CallLaws.{between, arg-counted}
 use Rattle.fxtable.proofs.MeaningLaws.{arity-row}
-use Rattle.fxtable.proofs.TableLaws.{at-most-four}
 use Rattle.fxstages.proofs.LoopLaws.{fold-answer}
 use Rattle.fxarith.proofs.compare.extreme.Goals as goal
 
@@ -30,12 +29,6 @@ unfolding arg
 from_first fold {n = n} {xs = xs} a h e =
     ap (λ (x : ℤ). fold_from (step fold) x (counted xs n))
     (arg-counted xs n 0 (between 1 n 4 (arity-row e a)).0 ∙ sym (back-word (arg xs 0) h))
-
-pub fold_all-requires : goal.fold_all-requires
-fold_all-requires c = at-most-four c.args.code c.args.count c.requires.accepted.arity
-
-pub fold_all-requires-else-code-eq11 : goal.fold_all-requires-else-code-eq11
-fold_all-requires-else-code-eq11 c = at-most-four c.args.code c.args.count c.requires.accepted.arity
 
 pub returns-then-code-eq11 : goal.returns-then-code-eq11
 unfolding rows row_of arg step largest

@@ -1,6 +1,6 @@
 -- `rulereader::constants::join` meets its contract. Assumes nothing.
 use native.Mathlib.Omega.{arith}
-use Rattle.rulereader.proofs.ConstantLaws.{part_small, join-too-large, join-padded, join_kept}
+use Rattle.rulereader.proofs.ConstantLaws.{part_small, join-too-large}
 use Rattle.rulereader.proofs.constants.join.Goals as goal
 
 pub returns-then-n-ge-TOO_LARGE : goal.returns-then-n-ge-TOO_LARGE
@@ -12,15 +12,3 @@ pub overflow_add-m : goal.overflow_add-m
 overflow_add-m c =
     let a = c.args in
     record { fits = omega (arith, c.if-n-ge-TOO_LARGE.false, c.part.ensures, part_small a.negative a.g c.requires) }
-
-pub returns-then-m-lt64 : goal.returns-then-m-lt64
-returns-then-m-lt64 c =
-    let a = c.args in
-    let e = c.part.ensures in
-    join-padded a.start a.negative a.n a.p a.g c.if-n-ge-TOO_LARGE.false (rw e at c.if-m-lt64.true)
-
-pub returns-else-m-lt64 : goal.returns-else-m-lt64
-returns-else-m-lt64 c =
-    let a = c.args in
-    let e = c.part.ensures in
-    rw e (join_kept a.start a.negative a.n a.p a.g c.if-n-ge-TOO_LARGE.false (rw e at c.if-m-lt64.false))
