@@ -90,7 +90,7 @@ fn answer_words<R: Env + Files + Input + Print>(rt: &R, errors: &impl Print) -> 
 }
 
 // The command: 0 for done, 1 for refused or widths that differ, 2 for trouble.
-fn ql_command<R: Env + Files + Input + Print>(rt: &R, errors: &impl Print) -> u64
+pub fn ql_command<R: Env + Files + Input + Print>(rt: &R, errors: &impl Print) -> u64
     ensures { result ≤ 2 }
 {
     let status = answer_words(rt, errors);
