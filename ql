@@ -29,7 +29,7 @@ is_built() {
 build() {
     command -v rt >/dev/null || fail "'rt' of the Rattle kit is not on the PATH, and only it can build ql"
     mkdir -p "$here/target/bin" 2>/dev/null && [ -w "$here/target/bin" ] || fail "it is not built, and $here/target cannot be written"
-    echo 'ql: proving and building the command; from nothing this takes some 13 minutes, and a line is printed as each part is checked' >&2
+    echo 'ql: proving and building the command; from nothing this takes minutes, and a line is printed as each part is checked' >&2
     log=$here/target/ql.log
     { (cd "$here/crates/ql" && rt run -- --version </dev/null) 2>&1 || echo 'rt: failed'; } | tee "$log" | sed -un 's/^crate \([a-z0-9_]*\): .*/ql: \1 is checked/p' >&2
     ! grep -q '^rt: failed$' "$log" && [ -x "$here/crates/ql/out/ql" ] || fail "it was not built: $log says why"
