@@ -1,4 +1,4 @@
--- A finite flonum x as an exact quotient: numerator x / den x. `den` is of lib.Ieee, and above 0.
+-- A finite flonum x as an exact quotient: numerator x / den x. `den` is of the kit's Float.Ieee, and above 0.
 --   negative x        ==  whether the sign is set; false for NaN
 --   numerator x       ==  the numerator, with the sign
 --   Representable x   ==  x is a finite flonum of 64 bits

@@ -1,4 +1,4 @@
--- What reading a text as a flonum answers: `round` of lib.Ieee says which flonum a fraction is, ties, subnormals, overflow and the sign of zero included.
+-- What reading a text as a flonum answers: `round` of the kit's Float.Ieee says which flonum a fraction is, ties, subnormals, overflow and the sign of zero included.
 --   limit                 ==  the most digits of a number, and its largest exponent: texts beyond these are too long
 --   flonum s h w f u d    ==  the flonum of the digits w, then f after the point, with the exponent u - d and the sign s
 --   number_reading s h cs  ==  of the digits and the exponent of a number
