@@ -3,7 +3,7 @@ use fldecimal::put_shortest;
 use flonum::answer::Answer;
 use flonum::ieee::bits;
 use flspelling::spell_flonum;
-use output::{put, put_both};
+use output::{put, put_both, put_word};
 
 fn put_decimal(x: f64, out: &mut [u8], at: usize) -> usize {
     let mut text = [0u8; 32];
@@ -19,9 +19,7 @@ pub fn put_flonum(x: f64, out: &mut [u8], at: usize) -> usize {
     let n = spell_flonum(x, &mut text);
     let at = put(&text[..n], out, at);
     let at = put(b" 0x", out, at);
-    let mut digits = [0u8; 16];
-    let k = output::digits::hex(bits(x), 16, &mut digits);
-    put(&digits[..k], out, at)
+    put_word(bits(x), out, at)
 }
 
 // The value of a done call. A refusal has none.

@@ -7,7 +7,7 @@ ghost use Rattle.fldecimal.specs.Spellings.{Spells};
 use super::layout::put_digits;
 use flonum::ieee::bits;
 use fltext::{FlonumReading, read_flonum};
-use output::{put, put_if};
+use output::{put, put_if, put_natural};
 
 pub fn is_negative(x: f64) -> bool {
     0x8000_0000_0000_0000 <= bits(x)
@@ -31,7 +31,7 @@ pub fn try_number(x: f64, q: u64, up: u64, down: u64, out: &mut [u8]) -> usize
 {
     let at = put_if(is_negative(x), b"-", out, 0);
     let mut digits = [0u8; 20];
-    let k = output::digits::decimal(q, &mut digits);
+    let k = put_natural(q, &mut digits, 0);
     let n = put_digits(&digits[..k], up, down, out, at);
     if reads_as(x, &out[..n]) { n } else { 0 }
 }

@@ -1,4 +1,3 @@
 pub mod PutLaws
 pub mod AppendLaws
 pub mod Counting
-pub mod Powers

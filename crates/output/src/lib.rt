@@ -7,7 +7,7 @@ ghost use Prim.Native.Nat as nat;
 ghost use Rattle.output.specs.Counts.{IsPrefixLen};
 ghost use Rattle.output.specs.Put.{filled, after};
 
-pub mod digits;
+mod digits;
 pub mod scan;
 
 use words::sign::{absolute, is_negative};
@@ -62,7 +62,8 @@ pub fn put_natural(n: u64, out: &mut [u8], at: usize) -> usize
     ensures { IsPrefixLen result out.new }
 {
     let mut digits = [0u8; 20];
-    let k = digits::decimal(n, &mut digits);
+    let end = digits::print_decimal(n, &mut digits);
+    let k = put(b"", &mut digits, end);
     put(&digits[..k], out, at)
 }
 
@@ -79,7 +80,18 @@ pub fn put_hexadecimal(n: i64, out: &mut [u8], at: usize) -> usize
     let at = put_if(is_negative(n), b"-", out, at);
     let at = put(b"0x", out, at);
     let mut digits = [0u8; 16];
-    let k = digits::hex(absolute(n), 1, &mut digits);
+    let end = digits::print_hexadecimal(absolute(n), &mut digits);
+    let k = put(b"", &mut digits, end);
+    put(&digits[..k], out, at)
+}
+
+// The sixteen hexadecimal digits of a word.
+pub fn put_word(n: u64, out: &mut [u8], at: usize) -> usize
+    ensures { IsPrefixLen result out.new }
+{
+    let mut digits = [0u8; 16];
+    let end = digits::print_word(n, &mut digits);
+    let k = put(b"", &mut digits, end);
     put(&digits[..k], out, at)
 }
 
