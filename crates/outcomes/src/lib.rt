@@ -3,3 +3,4 @@
 #![tactic(auto)]
 
 pub mod number;
+pub mod refusal;

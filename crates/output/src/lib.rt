@@ -7,7 +7,9 @@ ghost use Prim.Native.Nat as nat;
 ghost use Rattle.output.specs.Counts.{IsPrefixLen};
 ghost use Rattle.output.specs.Put.{filled, after};
 
+pub mod buffer;
 mod digits;
+pub mod numerals;
 pub mod scan;
 
 use words::sign::{absolute, is_negative};
