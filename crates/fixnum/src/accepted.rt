@@ -16,6 +16,7 @@ use fxbits::logical::{choose, combined, not};
 use fxbits::shifts::{shift_either, shift_left, shift_right};
 use fxstages::domains::first_outside_in_turn;
 use fxtable::answer::{Answer, refuse};
+use outcomes::refusal::Refusal;
 
 // The operations on numbers.
 fn operate_on_numbers(width: u64, code: u64, args: [i64; 4], count: u64) -> Answer
@@ -102,7 +103,7 @@ pub fn call_checked(width: u64, code: u64, args: [i64; 4], count: u64) -> Answer
 {
     let place = first_outside_in_turn(width, code, args, count);
     if place != 0 {
-        return refuse(5, place);
+        return refuse(Refusal::Domain, place);
     }
     operate_one(width, code, args, count)
 }

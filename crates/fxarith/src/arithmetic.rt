@@ -1,5 +1,6 @@
 // Codes 13 to 15: sum, product, difference.
-ghost use Rattle.std.specs.Prelude.{◌≡◌, true, ◌≤◌, ◌<◌, ℤ, pos};
+ghost use Rattle.std.specs.Prelude.{◌≡◌, true, ◌≤◌, ℤ, pos};
+ghost use Rattle.outcomes.specs.Refusal.{code_of};
 ghost use Rattle.fxtable.specs.Domains.{is_width};
 ghost use Rattle.fxtable.specs.Calls.{answer, counted, outcome};
 ghost use Rattle.fxtable.specs.Calls as calls;
@@ -8,6 +9,7 @@ ghost use Rattle.fxarith.specs.Held.{Held};
 
 use fxstages::overflow::{checked, exact};
 use fxtable::answer::{Answer, done, refuse};
+use outcomes::refusal::Refusal;
 use widewords::double::Double;
 use widewords::parts::{high_part, low_part};
 use widewords::sums::{difference, sum};
@@ -15,9 +17,9 @@ use widewords::wide::product;
 use words::sign::{absolute, is_negative};
 
 // A sum or a difference is a fixnum exactly where nothing is carried.
-fn without_carry(overflow: u64, width: u64, s: Double) -> Answer
-    requires { (is_width width ≡ true) × (0 < overflow) }
-    ensures { (x : ℤ) → Held width s x → result ≡ answer (calls.checked overflow width (x, pos 0)) }
+fn without_carry(overflow: Refusal, width: u64, s: Double) -> Answer
+    requires { is_width width ≡ true }
+    ensures { (x : ℤ) → Held width s x → result ≡ answer (calls.checked (code_of overflow) width (x, pos 0)) }
 {
     if high_part(width, s) != 0 {
         return refuse(overflow, 0);
@@ -32,7 +34,7 @@ pub fn add(width: u64, args: [i64; 4], count: u64) -> Answer
 {
     let x = args[0];
     let y = args[1];
-    without_carry(6, width, sum(x, y, 0))
+    without_carry(Refusal::Overflow, width, sum(x, y, 0))
 }
 
 // fx*
@@ -42,7 +44,7 @@ pub fn multiply(width: u64, args: [i64; 4], count: u64) -> Answer
 {
     let x = args[0];
     let y = args[1];
-    exact(6, width, product(x, y))
+    exact(Refusal::Overflow, width, product(x, y))
 }
 
 // fx-, of one argument or two
@@ -52,10 +54,10 @@ pub fn subtract(width: u64, args: [i64; 4], count: u64) -> Answer
 {
     let x = args[0];
     if count == 1 {
-        return checked(5, width, !is_negative(x), absolute(x), 0);
+        return checked(Refusal::Domain, width, !is_negative(x), absolute(x), 0);
     }
     let y = args[1];
-    without_carry(5, width, difference(x, y, 0))
+    without_carry(Refusal::Domain, width, difference(x, y, 0))
 }
 
 pub fn arithmetic(width: u64, code: u64, args: [i64; 4], count: u64) -> Answer

@@ -5,6 +5,7 @@ ghost use Rattle.fxtable.specs.Inner.{Accepted};
 
 use fxstages::overflow::checked;
 use fxtable::answer::{Answer, done};
+use outcomes::refusal::Refusal;
 use widewords::division;
 use words::sign::from_absolute;
 
@@ -18,8 +19,8 @@ pub fn divide(width: u64, code: u64, args: [i64; 4], count: u64) -> Answer
     let q = division::divide(19 <= code, x, y);
     let m = from_absolute(q.remainder_negative, q.remainder);
     match code {
-        16 | 19 => checked(6, width, q.negative, q.absolute, 0),
+        16 | 19 => checked(Refusal::Overflow, width, q.negative, q.absolute, 0),
         17 | 20 => done(m, 0),
-        _ => checked(6, width, q.negative, q.absolute, m),
+        _ => checked(Refusal::Overflow, width, q.negative, q.absolute, m),
     }
 }

@@ -8,6 +8,7 @@ ghost use Rattle.fxtable.specs.Inner.{Accepted};
 
 use fxstages::overflow::exact;
 use fxtable::answer::{Answer, done};
+use outcomes::refusal::Refusal;
 use widewords::wide::multiply;
 use words::sign::{absolute, from_magnitude, is_negative, magnitude, power};
 
@@ -16,7 +17,11 @@ fn left(width: u64, x: i64, k: u64) -> Answer
     requires { (is_width width ≡ true) × (k < 64) }
     ensures { result ≡ answer (calls.checked 6 width (shift_left x k, pos 0)) }
 {
-    exact(6, width, multiply(is_negative(x), absolute(x), power(k)))
+    exact(
+        Refusal::Overflow,
+        width,
+        multiply(is_negative(x), absolute(x), power(k)),
+    )
 }
 
 // The floor of x / 2^k, whose magnitude is that of x without its low k bits.

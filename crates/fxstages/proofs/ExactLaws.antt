@@ -14,8 +14,8 @@ use Rattle.fxtable.specs.Domains.{is_width}
 use Rattle.fxtable.proofs.CallLaws.{width-bounds, checked-cong, checked-large}
 
 -- no fixnum: the call is refused
-pub two_words : (k w : ℕ) (s : Wide) → (is_width w ≡ true) × (0 < k) → (s.high ≡ 0 → ⊥) → answer (refused k 0) ≡ answer (checked k w (wide_value s, pos 0))
-two_words k w s r h = let b = width-bounds w r.0 in sym (checked-large k w (wide_value s) (pos 0) r.1 (two-words-large w s (omega arith) h))
+pub two_words : (k w : ℕ) (s : Wide) → is_width w ≡ true → 0 < k → (s.high ≡ 0 → ⊥) → answer (refused k 0) ≡ answer (checked k w (wide_value s, pos 0))
+two_words k w s r p h = let b = width-bounds w r in sym (checked-large k w (wide_value s) (pos 0) p (two-words-large w s (omega arith) h))
 
 -- the low word with the sign is the result
 pub one_word_checked : (k w : ℕ) (s : Wide) → s.high ≡ 0 → answer (checked k w (with_sign s.negative s.low, pos 0)) ≡ answer (checked k w (wide_value s, pos 0))

@@ -16,7 +16,9 @@ use borrow.Author.Tests.{leb-true, lt-ltb, ne_eqb}
 use Rattle.bits.proofs.Booleans.{both_left, both_right}
 use Rattle.bits.proofs.FitsLaws.{zero-fits}
 use Rattle.bits.specs.Testbit.{fits}
-use Rattle.outcomes.specs.Outcome.{done, refuse}
+use Rattle.outcomes.specs.Outcome.{refused, done, refuse}
+use Rattle.outcomes.specs.Refusal.{code_of}
+use Rattle.outcomes.specs.declared.refusal.Refusal.{Refusal}
 use Rattle.outcomes.specs.Tests.{all_hold, guard_each}
 use Rattle.outcomes.proofs.OutcomeLaws.{passed, passed-at, failed}
 use Rattle.words.proofs.WordLaws.{back-word, fits-mag}
@@ -80,6 +82,29 @@ done-word {y} d h e = d ∙ done-cong (back-word y h ∙ e) refl
 
 pub checked-cong : {a a' b b' : ℤ} (k w : ℕ) → a ≡ a' → b ≡ b' → answer (checked k w (a, b)) ≡ answer (checked k w (a', b'))
 checked-cong k w p q = cc
+
+-- an answer that is given by a refusal's number
+pub refused-as : {r : Answer} {n : ℕ} (place : ℕ) → (k : ℕ) × (k ≡ n) × (r ≡ answer (refused k place)) → r ≡ answer (refused n place)
+refused-as place (k, same, e) = e ∙ ap (λ (j : ℕ). answer (refused j place)) same
+
+pub checked-as : {r : Answer} {n : ℕ} (w : ℕ) (results : ℤ × ℤ) → (k : ℕ) × (k ≡ n) × (r ≡ answer (checked k w results)) → r ≡ answer (checked n w results)
+checked-as w results (k, same, e) = e ∙ ap (λ (j : ℕ). answer (checked j w results)) same
+
+pub code-positive : (r : Refusal) → 0 < code_of r
+unfolding code_of
+code-positive Refusal.Width = omega arith
+code-positive Refusal.Code = omega arith
+code-positive Refusal.Count = omega arith
+code-positive Refusal.NotFixnum = omega arith
+code-positive Refusal.Domain = omega arith
+code-positive Refusal.Overflow = omega arith
+code-positive Refusal.Operand = omega arith
+code-positive Refusal.Capacity = omega arith
+code-positive Refusal.NotOpen = omega arith
+code-positive Refusal.BadRule = omega arith
+
+pub number-positive : (r : Refusal) (k : ℕ) → k ≡ code_of r → 0 < k
+number-positive r k same = let p : 0 < code_of r = code-positive r in omega arith
 
 -- the test for overflow, passed and failed; and where there is none
 pub checked-fits : (k w : ℕ) (a b : ℤ) → fits w a ≡ true → answer (checked k w (a, b)) ≡ answer (done (a, b))

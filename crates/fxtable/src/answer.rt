@@ -1,12 +1,12 @@
 // What a call answers: a refusal number, 0 for done; two results, which are 0 where the call is refused; and the place of the argument
 // that it is refused for, counted from 1, or 0 where it is done or refused for no argument. Made by `done` and `refuse` only.
-ghost use Rattle.std.specs.Prelude.{◌≡◌, pos};
+ghost use Rattle.std.specs.Prelude.{◌≡◌, ℕ, pos};
 ghost use Rattle.outcomes.specs.Outcome as outcome;
 ghost use Rattle.fxtable.specs.Calls.{answer};
 ghost use Rattle.fxtable.specs.Operations.{truth};
 
 #[repr(C)]
-#[derive(Clone, Copy)]
+#[derive(Clone, Copy, Debug, PartialEq, Eq)]
 pub struct Answer {
     pub refusal: u64,
     pub first: i64,
@@ -25,11 +25,13 @@ pub fn done(first: i64, second: i64) -> Answer
     }
 }
 
-pub fn refuse(refusal: u64, place: u64) -> Answer
-    ensures { result ≡ answer (outcome.refused refusal place) }
+// By a `Refusal`, or by its number.
+#[tactic(auto, unfolding(crate::specs::Calls::answer))]
+pub fn refuse<R: Into<u64>>(refusal: R, place: u64) -> Answer
+    ensures { (k : ℕ) × R.converts refusal k × (result ≡ answer (outcome.refused k place)) }
 {
     Answer {
-        refusal,
+        refusal: refusal.into(),
         first: 0,
         second: 0,
         place,

@@ -7,9 +7,10 @@ use Rattle.fxtable.specs.Calls.{is_count, all_fixnums, fixnum_answer, answer}
 use Rattle.fxtable.specs.Inner.{Accepted}
 use Rattle.fxtable.proofs.TableLaws.{at-most-four, code-bounds}
 use Rattle.outcomes.specs.Outcome.{refused}
+use Rattle.outcomes.specs.Refusal.{code_of}
 use Rattle.outcomes.proofs.OutcomeLaws.{passed, failed}
 use Rattle.outcomes.proofs.TestLaws.{none-failed, some-failed, passed-each, failed-each}
-use Rattle.fxtable.proofs.CallLaws.{accepted}
+use Rattle.fxtable.proofs.CallLaws.{accepted, refused-as}
 use Rattle.fixnum.proofs.call.Goals as goal
 use Rattle.fixnum.proofs.call.Goals.{Else-not-is_code, Else-not-is_count, Else-not-is_width, Else-place-ne0-2}
 
@@ -33,20 +34,20 @@ accepts c = record {
 }
 
 pub returns-then-not-is_width : goal.returns-then-not-is_width
-unfolding fixnum_answer
+unfolding fixnum_answer code_of
 returns-then-not-is_width c =
-    c.refuse.ensures ∙ ap answer (sym (failed 1 _ (sym c.is_width.ensures ∙ c.if-not-is_width.true)))
+    refused-as _ c.refuse.ensures ∙ ap answer (sym (failed 1 _ (sym c.is_width.ensures ∙ c.if-not-is_width.true)))
 
 pub returns-then-not-is_code : goal.returns-then-not-is_code
-unfolding fixnum_answer
+unfolding fixnum_answer code_of
 returns-then-not-is_code c =
-    c.refuse-then-not-is_code.ensures
+    refused-as _ c.refuse-then-not-is_code.ensures
     ∙ ap answer (sym (passed 1 _ (width-ok c.before.before.before) ∙ failed 2 _ (sym c.is_code.ensures ∙ c.if-not-is_code.true)))
 
 pub returns-then-not-is_count : goal.returns-then-not-is_count
-unfolding fixnum_answer
+unfolding fixnum_answer code_of
 returns-then-not-is_count c =
-    c.refuse-then-not-is_count.ensures
+    refused-as _ c.refuse-then-not-is_count.ensures
     ∙ ap answer (sym (passed 1 _ (width-ok c.before.before.before.before.before)
     ∙ passed 2 _ (code_ok c.before.before.before)
     ∙ failed 3 _ (sym c.is_count.ensures ∙ c.if-not-is_count.true)))
@@ -55,9 +56,9 @@ pub first_not_fixnum-place-requires : goal.first_not_fixnum-place-requires
 first_not_fixnum-place-requires c = (width-ok c.before.before.before.before, at-most-four _ _ (count-ok c))
 
 pub returns-then-place-ne0 : goal.returns-then-place-ne0
-unfolding fixnum_answer
+unfolding fixnum_answer code_of
 returns-then-place-ne0 c =
-    c.refuse-then-place-ne0.ensures
+    refused-as _ c.refuse-then-place-ne0.ensures
     ∙ ap answer (sym (passed 1 _ (width-ok c.before.before.before.before.before.before.before)
     ∙ passed 2 _ (code_ok c.before.before.before.before.before)
     ∙ passed 3 _ (count-ok c.before.before.before)
@@ -68,9 +69,9 @@ pub first_outside-place-requires : goal.first_outside-place-requires
 first_outside-place-requires c = record { width_value = width-ok c.before.before.before.before.before.before; count_value = count-ok c.before.before }
 
 pub returns-then-place-ne0-2 : goal.returns-then-place-ne0-2
-unfolding fixnum_answer
+unfolding fixnum_answer code_of
 returns-then-place-ne0-2 c =
-    c.refuse-then-place-ne0-2.ensures
+    refused-as _ c.refuse-then-place-ne0-2.ensures
     ∙ ap answer (sym (passed 1 _ (width-ok c.before.before.before.before.before.before.before.before.before)
     ∙ passed 2 _ (code_ok c.before.before.before.before.before.before.before)
     ∙ passed 3 _ (count-ok c.before.before.before.before.before)

@@ -1,13 +1,14 @@
 -- `fixnum::accepted::call_checked` meets its contract. Assumes nothing.
 use mathlib.Core.Path.{sym, ap, ◌∙◌}
 use Rattle.outcomes.specs.Outcome.{refused}
+use Rattle.outcomes.specs.Refusal.{code_of}
 use Rattle.outcomes.proofs.OutcomeLaws.{passed}
 use Rattle.outcomes.proofs.TestLaws.{none-failed, some-failed, passed-each, failed-each}
 use Rattle.fxtable.specs.Domains.{in_domains}
 use Rattle.fxtable.specs.Calls.{all_fixnums, fixnum_answer, answer}
 use Rattle.fxtable.specs.Inner.{Accepted}
 use Rattle.fxtable.proofs.TableLaws.{code-bounds}
-use Rattle.fxtable.proofs.CallLaws.{accepted}
+use Rattle.fxtable.proofs.CallLaws.{accepted, refused-as}
 use Rattle.fixnum.proofs.OneResult.{no-carry}
 use Rattle.fixnum.proofs.accepted.call_checked.Goals as goal
 use Rattle.fixnum.proofs.accepted.call_checked.Goals.{Else-place-ne0}
@@ -19,10 +20,10 @@ accepts c =
     record { width = k.width; arity = k.arity; fixnums = k.fixnums; domains = none-failed _ (sym c.first_outside_in_turn-place.ensures ∙ c.if-place-ne0.false) }
 
 pub returns-then-place-ne0 : goal.returns-then-place-ne0
-unfolding fixnum_answer all_fixnums
+unfolding fixnum_answer all_fixnums code_of
 returns-then-place-ne0 c =
     let k = c.requires.checked in
-    c.refuse.ensures
+    refused-as _ c.refuse.ensures
     ∙ ap answer (sym (passed 1 _ k.width
     ∙ passed 2 _ k.known
     ∙ passed 3 _ k.arity

@@ -4,12 +4,13 @@ use mathlib.Core.Path.{◌∙◌}
 use mir.Syntax.{w64}
 use mir.Val.{SFits}
 use Rattle.words.proofs.WordLaws.{back}
+use Rattle.outcomes.specs.Refusal.{code_of}
 use Rattle.fxtable.specs.Domains.{arg}
 use Rattle.fxarith.proofs.ArithmeticLaws.{sum-held, sum-outcome}
 use Rattle.fxarith.proofs.arithmetic.add.Goals as goal
 
 pub returns : goal.returns
-unfolding arg
+unfolding arg code_of
 returns c =
     let a = c.requires in
     let first : SFits w64 (arg c.args.args 0) = record { sfits = omega arith } in

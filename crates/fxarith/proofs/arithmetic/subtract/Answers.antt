@@ -6,22 +6,27 @@ use mir.Syntax.{w64}
 use mir.Val.{SFits}
 use Rattle.words.proofs.WordLaws.{back}
 use Rattle.words.proofs.SignedLaws.{with_sign-not, rejoin}
+use Rattle.outcomes.specs.Refusal.{code_of}
+use Rattle.outcomes.specs.declared.refusal.Refusal.{Refusal}
 use Rattle.fxtable.specs.Domains.{arg}
-use Rattle.fxtable.proofs.CallLaws.{checked-cong}
+use Rattle.fxtable.proofs.CallLaws.{number-positive, checked-as, checked-cong}
 use Rattle.fxarith.proofs.ArithmeticLaws.{negated-outcome, difference-held, difference-outcome}
 use Rattle.fxarith.proofs.arithmetic.subtract.Goals as goal
 
+pub checked-requires : goal.checked-requires
+checked-requires c = record { width_value = c.requires.width; number = number-positive Refusal.Domain }
+
 pub returns-then-count-eq1 : goal.returns-then-count-eq1
-unfolding arg
+unfolding arg code_of
 returns-then-count-eq1 c =
     let first : SFits w64 (arg c.args.args 0) = record { sfits = omega arith } in
-    c.checked.ensures
+    checked-as _ _ c.checked.ensures
     ∙ checked-cong 5 _
     (with_sign-not _ _ ∙ ap neg_ℤ (rejoin first c.is_negative.ensures c.absolute.ensures)) refl
     ∙ negated-outcome _ _ _ c.if-count-eq1.true
 
 pub returns : goal.returns
-unfolding arg
+unfolding arg code_of
 returns c =
     let first : SFits w64 (arg c.args.args 0) = record { sfits = omega arith } in
     let second : SFits w64 (arg c.args.args 1) = record { sfits = omega arith } in

@@ -8,8 +8,10 @@ use mir.Syntax.{w64}
 use mir.Val.{to_z, of_z}
 use Rattle.words.specs.Sign.{with_sign}
 use Rattle.words.proofs.WordLaws.{back}
+use Rattle.outcomes.specs.Refusal.{code_of}
+use Rattle.outcomes.specs.declared.refusal.Refusal.{Refusal}
 use Rattle.fxtable.specs.Domains.{arg}
-use Rattle.fxtable.proofs.CallLaws.{done-cong, checked-cong, never-checked}
+use Rattle.fxtable.proofs.CallLaws.{number-positive, checked-as, done-cong, checked-cong, never-checked}
 use Rattle.fxtable.proofs.MeaningLaws.{two-outcome, pair-outcome}
 use Rattle.fxstages.proofs.ArgumentLaws.{divisor-positive}
 use Rattle.fxarith.proofs.DivisionRows.{quotient_of, remainder_of, takes-divisor, quotient-row, remainder-row, both-row, both_code}
@@ -42,9 +44,16 @@ divide-q-requires c =
     subst (λ (y : ℤ). 0 < nat_abs y) {x = arg c.args.args 1} (sym (back (record { sfits = omega arith })))
     (divisor-positive c.requires.accepted (takes-divisor c.args.code c.requires.le_code))
 
+pub checked-requires : goal.checked-requires
+checked-requires c = record { width_value = c.requires.accepted.width; number = number-positive Refusal.Overflow }
+
+pub checked-requires-in_default : goal.checked-requires-in_default
+checked-requires-in_default c = record { width_value = c.requires.accepted.width; number = number-positive Refusal.Overflow }
+
 pub returns-in-16 : goal.returns-in-16
+unfolding code_of
 returns-in-16 c =
-    c.checked.ensures
+    checked-as _ _ c.checked.ensures
     ∙ checked-cong 6 c.args.width (quotient_is c.before.before.before) refl
     ∙ two-outcome (λ v x y. quotient_of c.args.code x y) (quotient-row c.in-16.is) c.requires.accepted
 
@@ -56,8 +65,9 @@ returns-in-17 c =
     ∙ two-outcome (λ v x y. remainder_of c.args.code x y) (remainder-row c.in-17.is) c.requires.accepted
 
 pub returns-in_default : goal.returns-in_default
+unfolding code_of
 returns-in_default c =
-    c.checked-in_default.ensures
+    checked-as _ _ c.checked-in_default.ensures
     ∙ checked-cong 6 c.args.width (quotient_is c.before.before.before) (remainder_is c.before.before)
     ∙ pair-outcome (λ v x y. (quotient_of c.args.code x y, remainder_of c.args.code x y))
     (both-row (both_code c.args.code c.requires.le_code (search rules) (search rules))) c.requires.accepted
