@@ -1,53 +1,78 @@
 // What is said of a refused call, of either kind.
-use super::roles::put_role_behind;
-use names::{Table, put_name};
-use output::{put, put_decimal, put_if, put_natural};
+use super::roles::role;
+use names::Operation;
+use std::fmt;
 
 // `24`, or `24 to 30`.
-pub fn put_span(first: u64, last: u64, out: &mut [u8], at: usize) -> usize {
-    let at = put_natural(first, out, at);
-    if last <= first {
-        return at;
-    }
-    let at = put(b" to ", out, at);
-    put_natural(last, out, at)
+#[derive(Clone, Copy)]
+pub struct Span {
+    pub first: u64,
+    pub last: u64,
 }
 
-// `1 argument`, or `2 to 4 arguments`
-pub fn put_counts(least: u64, most: u64, out: &mut [u8], at: usize) -> usize {
-    let at = put_span(least, most, out, at);
-    let at = put(b" argument", out, at);
-    put_if(most != 1, b"s", out, at)
+impl fmt::Display for Span {
+    fn fmt<W: fmt::Write>(&self, f: &mut fmt::Formatter<W>) -> fmt::Result {
+        if self.last <= self.first {
+            write!(f, "{}", self.first)
+        } else {
+            write!(f, "{} to {}", self.first, self.last)
+        }
+    }
+}
+
+// How many arguments an operation takes: `1 argument`, or `2 to 4 arguments`.
+#[derive(Clone, Copy)]
+pub struct Counts {
+    pub least: u64,
+    pub most: u64,
+}
+
+impl Counts {
+    pub fn span(self) -> Span {
+        Span {
+            first: self.least,
+            last: self.most,
+        }
+    }
+}
+
+impl fmt::Display for Counts {
+    fn fmt<W: fmt::Write>(&self, f: &mut fmt::Formatter<W>) -> fmt::Result {
+        let plural = if self.most == 1 { "" } else { "s" };
+        write!(f, "{} argument{plural}", self.span())
+    }
 }
 
 // `fxnot takes 1 argument, not 2`
-pub fn put_count_rule(
-    table: Table,
-    number: u64,
-    least: u64,
-    most: u64,
-    count: u64,
-    out: &mut [u8],
-    at: usize,
-) -> usize {
-    let at = put_name(table, number, out, at);
-    let at = put(b" takes ", out, at);
-    let at = put_counts(least, most, out, at);
-    let at = put(b", not ", out, at);
-    put_natural(count, out, at)
+#[derive(Clone, Copy)]
+pub struct WrongCount {
+    pub operation: Operation,
+    pub counts: Counts,
+    pub count: u64,
 }
 
-pub fn put_refused(refusal: u64, out: &mut [u8], at: usize) -> usize {
-    let at = put(b"refused ", out, at);
-    let at = put_natural(refusal, out, at);
-    put(b": ", out, at)
+impl fmt::Display for WrongCount {
+    fn fmt<W: fmt::Write>(&self, f: &mut fmt::Formatter<W>) -> fmt::Result {
+        let name = self.operation.name();
+        write!(f, "{name} takes {}, not {}", self.counts, self.count)
+    }
 }
 
-// `argument 2, the start,`, or `argument 1` of one without a role.
-pub fn put_argument(code: u64, place: u64, out: &mut [u8], at: usize) -> usize {
-    let at = put(b"argument ", out, at);
-    let at = put_natural(place, out, at);
-    put_role_behind(code, place, out, at)
+// An argument of a fixnum operation, by its place from 1: `argument 2, the start,`, or `argument 1` of one without a role.
+#[derive(Clone, Copy)]
+pub struct Argument {
+    pub code: u64,
+    pub place: u64,
+}
+
+impl fmt::Display for Argument {
+    fn fmt<W: fmt::Write>(&self, f: &mut fmt::Formatter<W>) -> fmt::Result {
+        let place = self.place;
+        match role(self.code, place) {
+            Some(role) => write!(f, "argument {place}, {role},"),
+            None => write!(f, "argument {place}"),
+        }
+    }
 }
 
 // An argument, by its place from 1 to 4.
@@ -58,17 +83,4 @@ pub fn argument_at(place: u64, args: [i64; 4]) -> i64 {
         3 => args[2],
         _ => args[3],
     }
-}
-
-// ` is -1: it `
-pub fn put_is(value: i64, out: &mut [u8], at: usize) -> usize {
-    let at = put(b" is ", out, at);
-    let at = put_decimal(value, out, at);
-    put(b": it ", out, at)
-}
-
-// `argument 2, the start, is -1: it `
-pub fn put_offender(code: u64, place: u64, args: [i64; 4], out: &mut [u8], at: usize) -> usize {
-    let at = put_argument(code, place, out, at);
-    put_is(argument_at(place, args), out, at)
 }

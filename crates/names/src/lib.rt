@@ -1,209 +1,297 @@
-// The operations by name, and the one search through a list of names.
+// The commands and the operations by name.
 #![tactic(auto)]
 
-ghost use Rattle.std.specs.Prelude.{◌≤◌, length};
+use std::fmt;
 
-use check::same;
-use output::{put, scan};
-
-// The commands.
-fn command_lines() -> [u8; 60] {
-    *b"fx
-widths
-bitwise
-trim
-fl
-list
-fold
-join
-rule
-ops
-help
-batch"
-}
-
-// The fixnum operations in the order of their codes: a line has a name and its arguments.
-fn fixnum_lines() -> [u8; 664] {
-    *b"fx=? x y ..
-fx>? x y ..
-fx<? x y ..
-fx>=? x y ..
-fx<=? x y ..
-fxzero? x
-fxpositive? x
-fxnegative? x
-fxodd? x
-fxeven? x
-fxmax x ..
-fxmin x ..
-fx+ x y
-fx* x y
-fx- x, or x y
-fxdiv x y
-fxmod x y
-fxdiv-and-mod x y
-fxdiv0 x y
-fxmod0 x y
-fxdiv0-and-mod0 x y
-fx+/carry x y z
-fx-/carry x y z
-fx*/carry x y z
-fxnot x
-fxand ..
-fxior ..
-fxxor ..
-fxif x y z
-fxbit-count x
-fxlength x
-fxfirst-bit-set x
-fxbit-set? x position
-fxcopy-bit x position new-bit
-fxbit-field x start end
-fxcopy-bit-field x start end y
-fxarithmetic-shift x distance
-fxarithmetic-shift-left x distance
-fxarithmetic-shift-right x distance
-fxrotate-bit-field x start end count
-fxreverse-bit-field x start end"
-}
-
-// The bitwise operations have no codes: here they are counted from 1, in R6RS's order.
-fn bitwise_lines() -> [u8; 470] {
-    *b"bitwise-not x
-bitwise-and x y
-bitwise-ior x y
-bitwise-xor x y
-bitwise-if x y z
-bitwise-bit-count x
-bitwise-length x
-bitwise-first-bit-set x
-bitwise-bit-set? x position
-bitwise-copy-bit x position new-bit
-bitwise-bit-field x start end
-bitwise-copy-bit-field x start end y
-bitwise-arithmetic-shift x distance
-bitwise-arithmetic-shift-left x distance
-bitwise-arithmetic-shift-right x distance
-bitwise-rotate-bit-field x start end count
-bitwise-reverse-bit-field x start end"
-}
-
-// The flonum operations have no codes either.
-fn flonum_lines() -> [u8; 112] {
-    *b"fixnum->flonum width n
-flfloor x
-flceiling x
-fltruncate x
-flround x
-flabs x
-flnan? x
-flfinite? x
-flextremes x .."
-}
-
-// A line of a table, counted from 1: where it begins, where its name ends and where it ends. Line 0 where there is none.
-#[derive(Clone, Copy)]
-struct Line {
-    number: u64,
-    start: usize,
-    name_end: usize,
-    end: usize,
-}
-
-// The first line that has a number, or a word for its name.
-fn find(table: &[u8], number: u64, word: &[u8]) -> Line
-    ensures start_bound { (result.start ≤ result.name_end) × (result.name_end ≤ result.end) }
-    ensures end_in_bounds { result.end ≤ length table.now }
-{
-    let mut passed = 0;
-    let mut start = 0;
-    while start < table.len() {
-        let end = scan::find(table, start, table.len(), b'\n');
-        let name_end = scan::find(table, start, end, b' ');
-        if passed + 1 == number || same(word, &table[start..name_end]) {
-            return Line {
-                number: passed + 1,
-                start,
-                name_end,
-                end,
-            };
-        }
-        if table.len() <= end {
-            break;
-        }
-        start = end + 1;
-        passed += 1;
-    }
-    Line {
-        number: 0,
-        start: 0,
-        name_end: 0,
-        end: 0,
-    }
-}
-
-// The list that a name is looked up in.
-#[derive(Clone, Copy)]
-pub enum Table {
-    Commands,
-    Fixnum,
+#[derive(Clone, Copy, Debug, PartialEq, Eq)]
+pub enum Command {
+    Fx,
+    Widths,
     Bitwise,
-    Flonum,
+    Trim,
+    Fl,
+    List,
+    Fold,
+    Join,
+    Rule,
+    Ops,
+    Help,
+    Batch,
 }
 
-// The number of a name in its list, or 0.
-pub fn number_of(table: Table, name: &[u8]) -> u64 {
-    match table {
-        Table::Commands => find(&command_lines(), 0, name).number,
-        Table::Fixnum => find(&fixnum_lines(), 0, name).number,
-        Table::Bitwise => find(&bitwise_lines(), 0, name).number,
-        Table::Flonum => find(&flonum_lines(), 0, name).number,
+impl Command {
+    pub const ALL: [Command; 12] = [
+        Command::Fx,
+        Command::Widths,
+        Command::Bitwise,
+        Command::Trim,
+        Command::Fl,
+        Command::List,
+        Command::Fold,
+        Command::Join,
+        Command::Rule,
+        Command::Ops,
+        Command::Help,
+        Command::Batch,
+    ];
+
+    pub fn name(self) -> &'static str {
+        match self {
+            Command::Fx => "fx",
+            Command::Widths => "widths",
+            Command::Bitwise => "bitwise",
+            Command::Trim => "trim",
+            Command::Fl => "fl",
+            Command::List => "list",
+            Command::Fold => "fold",
+            Command::Join => "join",
+            Command::Rule => "rule",
+            Command::Ops => "ops",
+            Command::Help => "help",
+            Command::Batch => "batch",
+        }
+    }
+
+    pub fn named(word: &[u8]) -> Option<Command> {
+        Command::ALL
+            .into_iter()
+            .find(|command| command.name().as_bytes() == word)
     }
 }
 
-// A part of a line: the name, what follows it with the blank in front, or all.
+// The fixnum operations in the order of their codes: their names and their arguments.
+const FIXNUM: [(&str, &str); 41] = [
+    ("fx=?", "x y .."),
+    ("fx>?", "x y .."),
+    ("fx<?", "x y .."),
+    ("fx>=?", "x y .."),
+    ("fx<=?", "x y .."),
+    ("fxzero?", "x"),
+    ("fxpositive?", "x"),
+    ("fxnegative?", "x"),
+    ("fxodd?", "x"),
+    ("fxeven?", "x"),
+    ("fxmax", "x .."),
+    ("fxmin", "x .."),
+    ("fx+", "x y"),
+    ("fx*", "x y"),
+    ("fx-", "x, or x y"),
+    ("fxdiv", "x y"),
+    ("fxmod", "x y"),
+    ("fxdiv-and-mod", "x y"),
+    ("fxdiv0", "x y"),
+    ("fxmod0", "x y"),
+    ("fxdiv0-and-mod0", "x y"),
+    ("fx+/carry", "x y z"),
+    ("fx-/carry", "x y z"),
+    ("fx*/carry", "x y z"),
+    ("fxnot", "x"),
+    ("fxand", ".."),
+    ("fxior", ".."),
+    ("fxxor", ".."),
+    ("fxif", "x y z"),
+    ("fxbit-count", "x"),
+    ("fxlength", "x"),
+    ("fxfirst-bit-set", "x"),
+    ("fxbit-set?", "x position"),
+    ("fxcopy-bit", "x position new-bit"),
+    ("fxbit-field", "x start end"),
+    ("fxcopy-bit-field", "x start end y"),
+    ("fxarithmetic-shift", "x distance"),
+    ("fxarithmetic-shift-left", "x distance"),
+    ("fxarithmetic-shift-right", "x distance"),
+    ("fxrotate-bit-field", "x start end count"),
+    ("fxreverse-bit-field", "x start end"),
+];
+
+// The code of the fixnum operation that a word names.
+pub fn code_named(word: &[u8]) -> Option<u64> {
+    let index = FIXNUM.iter().position(|(name, _)| name.as_bytes() == word)?;
+    Some(index as u64 + 1)
+}
+
+// The name and the arguments of a fixnum operation; nothing of a number that is no code.
+fn fixnum_entry(code: u64) -> (&'static str, &'static str) {
+    let Some(index) = code.checked_sub(1) else {
+        return ("", "");
+    };
+    FIXNUM.get(index as usize).copied().unwrap_or(("", ""))
+}
+
+pub fn fixnum_name(code: u64) -> &'static str {
+    fixnum_entry(code).0
+}
+
+// The same as a value that is printed.
 #[derive(Clone, Copy)]
-enum Part {
-    Name,
-    Rest,
-    Whole,
-}
+pub struct FixnumName(pub u64);
 
-fn put_part(lines: &[u8], number: u64, part: Part, out: &mut [u8], at: usize) -> usize {
-    let line = find(lines, number, b"");
-    let start = line.start;
-    let name_end = line.name_end;
-    let end = line.end;
-    match part {
-        Part::Name => put(&lines[start..name_end], out, at),
-        Part::Rest => put(&lines[name_end..end], out, at),
-        Part::Whole => put(&lines[start..end], out, at),
+impl fmt::Display for FixnumName {
+    fn fmt<W: fmt::Write>(&self, f: &mut fmt::Formatter<W>) -> fmt::Result {
+        write!(f, "{}", fixnum_name(self.0))
     }
 }
 
-fn put_of(table: Table, number: u64, part: Part, out: &mut [u8], at: usize) -> usize {
-    match table {
-        Table::Commands => put_part(&command_lines(), number, part, out, at),
-        Table::Fixnum => put_part(&fixnum_lines(), number, part, out, at),
-        Table::Bitwise => put_part(&bitwise_lines(), number, part, out, at),
-        Table::Flonum => put_part(&flonum_lines(), number, part, out, at),
+#[derive(Clone, Copy, Debug, PartialEq, Eq)]
+pub enum Bitwise {
+    Not,
+    And,
+    Ior,
+    Xor,
+    If,
+    BitCount,
+    Length,
+    FirstBitSet,
+    BitSet,
+    CopyBit,
+    BitField,
+    CopyBitField,
+    ArithmeticShift,
+    ArithmeticShiftLeft,
+    ArithmeticShiftRight,
+    RotateBitField,
+    ReverseBitField,
+}
+
+impl Bitwise {
+    // They have no codes: here they are in the order of the fixnum operations that they are at every width, codes 25 to 41.
+    pub const ALL: [Bitwise; 17] = [
+        Bitwise::Not,
+        Bitwise::And,
+        Bitwise::Ior,
+        Bitwise::Xor,
+        Bitwise::If,
+        Bitwise::BitCount,
+        Bitwise::Length,
+        Bitwise::FirstBitSet,
+        Bitwise::BitSet,
+        Bitwise::CopyBit,
+        Bitwise::BitField,
+        Bitwise::CopyBitField,
+        Bitwise::ArithmeticShift,
+        Bitwise::ArithmeticShiftLeft,
+        Bitwise::ArithmeticShiftRight,
+        Bitwise::RotateBitField,
+        Bitwise::ReverseBitField,
+    ];
+
+    fn entry(self) -> (&'static str, &'static str) {
+        match self {
+            Bitwise::Not => ("bitwise-not", "x"),
+            Bitwise::And => ("bitwise-and", "x y"),
+            Bitwise::Ior => ("bitwise-ior", "x y"),
+            Bitwise::Xor => ("bitwise-xor", "x y"),
+            Bitwise::If => ("bitwise-if", "x y z"),
+            Bitwise::BitCount => ("bitwise-bit-count", "x"),
+            Bitwise::Length => ("bitwise-length", "x"),
+            Bitwise::FirstBitSet => ("bitwise-first-bit-set", "x"),
+            Bitwise::BitSet => ("bitwise-bit-set?", "x position"),
+            Bitwise::CopyBit => ("bitwise-copy-bit", "x position new-bit"),
+            Bitwise::BitField => ("bitwise-bit-field", "x start end"),
+            Bitwise::CopyBitField => ("bitwise-copy-bit-field", "x start end y"),
+            Bitwise::ArithmeticShift => ("bitwise-arithmetic-shift", "x distance"),
+            Bitwise::ArithmeticShiftLeft => ("bitwise-arithmetic-shift-left", "x distance"),
+            Bitwise::ArithmeticShiftRight => ("bitwise-arithmetic-shift-right", "x distance"),
+            Bitwise::RotateBitField => ("bitwise-rotate-bit-field", "x start end count"),
+            Bitwise::ReverseBitField => ("bitwise-reverse-bit-field", "x start end"),
+        }
+    }
+
+    pub fn name(self) -> &'static str {
+        self.entry().0
+    }
+
+    pub fn named(word: &[u8]) -> Option<Bitwise> {
+        Bitwise::ALL
+            .into_iter()
+            .find(|operation| operation.name().as_bytes() == word)
     }
 }
 
-pub fn put_name(table: Table, number: u64, out: &mut [u8], at: usize) -> usize {
-    put_of(table, number, Part::Name, out, at)
+#[derive(Clone, Copy, Debug, PartialEq, Eq)]
+pub enum FlonumOperation {
+    FromFixnum,
+    Floor,
+    Ceiling,
+    Truncate,
+    Round,
+    Abs,
+    Nan,
+    Finite,
+    Extremes,
 }
 
-// What follows the name, with the blank in front.
-pub fn put_arguments(table: Table, number: u64, out: &mut [u8], at: usize) -> usize {
-    put_of(table, number, Part::Rest, out, at)
+impl FlonumOperation {
+    pub const ALL: [FlonumOperation; 9] = [
+        FlonumOperation::FromFixnum,
+        FlonumOperation::Floor,
+        FlonumOperation::Ceiling,
+        FlonumOperation::Truncate,
+        FlonumOperation::Round,
+        FlonumOperation::Abs,
+        FlonumOperation::Nan,
+        FlonumOperation::Finite,
+        FlonumOperation::Extremes,
+    ];
+
+    fn entry(self) -> (&'static str, &'static str) {
+        match self {
+            FlonumOperation::FromFixnum => ("fixnum->flonum", "width n"),
+            FlonumOperation::Floor => ("flfloor", "x"),
+            FlonumOperation::Ceiling => ("flceiling", "x"),
+            FlonumOperation::Truncate => ("fltruncate", "x"),
+            FlonumOperation::Round => ("flround", "x"),
+            FlonumOperation::Abs => ("flabs", "x"),
+            FlonumOperation::Nan => ("flnan?", "x"),
+            FlonumOperation::Finite => ("flfinite?", "x"),
+            FlonumOperation::Extremes => ("flextremes", "x .."),
+        }
+    }
+
+    pub fn name(self) -> &'static str {
+        self.entry().0
+    }
+
+    pub fn named(word: &[u8]) -> Option<FlonumOperation> {
+        FlonumOperation::ALL
+            .into_iter()
+            .find(|operation| operation.name().as_bytes() == word)
+    }
 }
 
-pub fn put_entry(table: Table, number: u64, out: &mut [u8], at: usize) -> usize {
-    put_of(table, number, Part::Whole, out, at)
+// An operation of any kind: a fixnum operation by its code.
+#[derive(Clone, Copy, Debug, PartialEq, Eq)]
+pub enum Operation {
+    Fixnum(u64),
+    Bitwise(Bitwise),
+    Flonum(FlonumOperation),
 }
 
-// A line of a text.
-pub fn put_line(lines: &[u8], number: u64, out: &mut [u8], at: usize) -> usize {
-    put_part(lines, number, Part::Whole, out, at)
+impl Operation {
+    pub fn named(word: &[u8]) -> Option<Operation> {
+        if let Some(code) = code_named(word) {
+            return Some(Operation::Fixnum(code));
+        }
+        if let Some(operation) = Bitwise::named(word) {
+            return Some(Operation::Bitwise(operation));
+        }
+        FlonumOperation::named(word).map(Operation::Flonum)
+    }
+
+    fn entry(self) -> (&'static str, &'static str) {
+        match self {
+            Operation::Fixnum(code) => fixnum_entry(code),
+            Operation::Bitwise(operation) => operation.entry(),
+            Operation::Flonum(operation) => operation.entry(),
+        }
+    }
+
+    pub fn name(self) -> &'static str {
+        self.entry().0
+    }
+
+    // The names of the arguments, as `x start end`.
+    pub fn arguments(self) -> &'static str {
+        self.entry().1
+    }
 }
