@@ -1,43 +1,27 @@
 // Files by name. The name - is standard input's.
-use super::cause::{EACCES, EISDIR, ENAMETOOLONG, ENOENT, ENOTDIR, EPERM, number, put_words};
-use super::write::{report, report_input};
-use check::same;
-use line::trouble::put_file_name;
-use output::put;
+use super::Console;
+use super::cause::Words;
+use line::trouble::Shown;
 use std::io::{ErrorKind, Read};
 use std::rt::Files;
-use std::{fs, io};
+use std::{fmt, fs, io, str};
 
-fn is_input(name: &[u8]) -> bool {
-    same(name, b"-")
-}
+const INPUT: &[u8] = b"-";
 
-// The usual causes, in words.
-fn put_cause(error: &io::Error, out: &mut [u8], at: usize) -> usize {
-    match number(error) {
-        ENOENT | ENOTDIR => put(b": no such file\n", out, at),
-        EACCES | EPERM => put(b": no permission\n", out, at),
-        EISDIR => put(b": it is a folder\n", out, at),
-        ENAMETOOLONG => put(b": the name is too long\n", out, at),
-        _ => put_words(error, out, at),
+// Why a file cannot be read: the usual causes in words of the command.
+#[derive(Clone, Copy)]
+struct Cause(io::Error);
+
+impl fmt::Display for Cause {
+    fn fmt<W: fmt::Write>(&self, f: &mut fmt::Formatter<W>) -> fmt::Result {
+        match self.0.kind() {
+            ErrorKind::NotFound | ErrorKind::NotADirectory => f.write_str("no such file"),
+            ErrorKind::PermissionDenied => f.write_str("no permission"),
+            ErrorKind::IsADirectory => f.write_str("it is a folder"),
+            ErrorKind::InvalidFilename => f.write_str("the name is too long"),
+            _ => write!(f, "{}", Words(self.0)),
+        }
     }
-}
-
-// Says on standard error why a file cannot be read, if it cannot.
-pub fn report_file(errors: &impl Print, failure: Option<io::Error>, name: &[u8], out: &mut [u8]) {
-    let Some(error) = failure else {
-        return;
-    };
-    if is_input(name) {
-        report_input(errors);
-        return;
-    }
-    let at = put(b"ql: '", out, 0);
-    let at = put_file_name(name, out, at);
-    let at = put(b"' cannot be read", out, at);
-    let end = put_cause(&error, out, at);
-    let end = put(b"", out, end);
-    report(errors, &out[..end]);
 }
 
 // A file that is open: standard input, or one that was opened by its name.
@@ -56,16 +40,29 @@ impl<I: Read, F: Read> Read for Source<I, F> {
     }
 }
 
-// Opens a file. The library takes a name that is UTF-8, and no other.
-pub fn open_file<R: Files + Input>(rt: &R, name: &[u8]) -> io::Result<Source<R::Reader, R::File>> {
-    if is_input(name) {
-        return Ok(Source::Input(rt.reader()));
-    }
-    match std::str::from_utf8(name) {
-        Ok(text) => Ok(Source::File(fs::open(rt, text)?)),
-        Err(_) => Err(io::Error::new(ErrorKind::InvalidFilename, "the name is not UTF-8")),
+impl<'a, R: Files + Input, E> Console<'a, R, E> {
+    // Opens a file, which is closed where it is dropped, but standard input is not. The library takes a name that is UTF-8, and no other.
+    pub fn open_file(&self, name: &[u8]) -> io::Result<Source<R::Reader, R::File>> {
+        if name == INPUT {
+            return Ok(Source::Input(self.rt.reader()));
+        }
+        let name = str::from_utf8(name).map_err(|_| io::Error::new(
+            ErrorKind::InvalidInput,
+            "the name is not UTF-8",
+        ))?;
+        Ok(Source::File(fs::open(self.rt, name)?))
     }
 }
 
-// Closes a file, but not standard input.
-pub fn close_file<I: Drop, F: Drop>(_file: Source<I, F>) {}
+impl<'a, R, E: Print> Console<'a, R, E> {
+    // Says on standard error why a file cannot be read.
+    pub fn report_file(&self, name: &[u8], error: io::Error) {
+        if name == INPUT {
+            self.report_input();
+            return;
+        }
+        let name = Shown::file_name(name);
+        let cause = Cause(error);
+        self.report(format_args!("ql: '{name}' cannot be read: {cause}\n"));
+    }
+}

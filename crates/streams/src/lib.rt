@@ -1,7 +1,12 @@
-// Input that is read, answers that are written, and what is said where that fails.
+// Files that are read, answers that are written, and what is said where that fails.
 #![tactic(auto)]
 
-pub mod cause;
+mod cause;
 pub mod files;
-pub mod read;
-pub mod write;
+mod write;
+
+// What the command reads from and writes to: the system and standard output, and standard error.
+pub struct Console<'a, R, E> {
+    pub rt: &'a R,
+    pub errors: &'a E,
+}

@@ -1,68 +1,64 @@
-// Writing an answer, and what is said where it cannot be written.
-use super::cause::{EBADF, ENOSPC, EPIPE, number, put_words};
-use line::reply::{Reply, TROUBLE};
-use output::put;
-use std::io;
+// An answer that is written, and what is said where it cannot be.
+use super::Console;
+use super::cause::Words;
+use line::trouble::Status;
+use output::buffer::Output;
+use std::io::ErrorKind;
+use std::{fmt, io};
 
-// Standard error is what prints here: what cannot be written there is lost.
-pub fn report(errors: &impl Print, text: &[u8]) {
-    let _ = errors.write_all(text);
-}
+// The system's number for a stream that is closed, which has no kind of its own.
+const EBADF: i32 = 9;
 
-// What is said where the cause has no words here.
-fn report_words(errors: &impl Print, error: &io::Error) {
-    let mut text = [0u8; 320];
-    let at = put(b"ql: the answer cannot be written", &mut text, 0);
-    let end = put_words(error, &mut text, at);
-    report(errors, &text[..end]);
-}
+// Why an answer cannot be written.
+#[derive(Clone, Copy)]
+struct Cause(io::Error);
 
-// Says on standard error why an answer cannot be written. Where nobody reads it any more, nothing is said.
-fn report_output(errors: &impl Print, error: &io::Error) {
-    match number(error) {
-        EBADF => report(
-            errors,
-            b"ql: the answer cannot be written: standard output is closed\n",
-        ),
-        ENOSPC => report(
-            errors,
-            b"ql: the answer cannot be written: no space is left on the device\n",
-        ),
-        EPIPE => {}
-        _ => report_words(errors, error),
-    }
-}
-
-pub fn report_input(errors: &impl Print) {
-    report(errors, b"ql: standard input cannot be read\n");
-}
-
-// Writes to standard output, or says on standard error why it cannot, and answers whether it could.
-pub fn write_answer(rt: &impl Print, errors: &impl Print, text: &[u8]) -> bool {
-    match rt.write_all(text) {
-        Ok(()) => true,
-        Err(error) => {
-            report_output(errors, &error);
-            false
+impl fmt::Display for Cause {
+    fn fmt<W: fmt::Write>(&self, f: &mut fmt::Formatter<W>) -> fmt::Result {
+        if self.0.raw_os_error() == Some(EBADF) {
+            return f.write_str("standard output is closed");
+        }
+        match self.0.kind() {
+            ErrorKind::StorageFull => f.write_str("no space is left on the device"),
+            _ => write!(f, "{}", Words(self.0)),
         }
     }
 }
 
-// Writes what is said of a word to standard error, and any other answer to standard output. Answers the exit status.
-pub fn write_reply(rt: &impl Print, errors: &impl Print, status: u64, text: &[u8]) -> u64 {
-    if status == TROUBLE {
-        report(errors, text);
-        return TROUBLE;
+impl<'a, R, E: Print> Console<'a, R, E> {
+    // Says something on standard error, by one write. What cannot be written there is lost.
+    pub fn report<M: fmt::Display + Drop>(&self, message: M) {
+        let mut bytes = [0; 8192];
+        let mut text = Output::new(&mut bytes);
+        text.print(message);
+        let _ = self.errors.write_all(text.text());
     }
-    if write_answer(rt, errors, text) {
-        status
-    } else {
-        TROUBLE
+
+    pub fn report_input(&self) {
+        self.report("ql: standard input cannot be read\n");
     }
 }
 
-// The same for a reply whose text stands in a buffer.
-pub fn write_out(rt: &impl Print, errors: &impl Print, reply: Reply, out: &mut [u8]) -> u64 {
-    let n = put(b"", out, reply.filled);
-    write_reply(rt, errors, reply.status, &out[..n])
+impl<'a, R: Print, E: Print> Console<'a, R, E> {
+    // Writes to standard output, or says on standard error why it cannot. Where nobody reads it any more, nothing is said.
+    pub fn write_answer(&self, text: &[u8]) -> io::Result<()> {
+        self.rt.write_all(text).inspect_err(|error| {
+            if error.kind() != ErrorKind::BrokenPipe {
+                let cause = Cause(*error);
+                self.report(format_args!("ql: the answer cannot be written: {cause}\n"));
+            }
+        })
+    }
+
+    // Writes what is said of a word to standard error, and any other answer to standard output. Answers the exit status.
+    pub fn write_reply(&self, status: Status, text: &[u8]) -> Status {
+        if status == Status::Trouble {
+            let _ = self.errors.write_all(text);
+            return Status::Trouble;
+        }
+        match self.write_answer(text) {
+            Ok(()) => status,
+            Err(_) => Status::Trouble,
+        }
+    }
 }
