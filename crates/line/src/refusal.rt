@@ -1,7 +1,35 @@
 // What is said of a refused call, of either kind.
 use super::roles::role;
 use names::Operation;
+use outcomes::refusal::Refusal;
 use std::fmt;
+
+// The refusal with a number, as the answers have it that C reads; 0 is for a call that is done.
+pub fn refusal_of(number: u64) -> Option<Refusal> {
+    match number {
+        1 => Some(Refusal::Width),
+        2 => Some(Refusal::Code),
+        3 => Some(Refusal::Count),
+        4 => Some(Refusal::NotFixnum),
+        5 => Some(Refusal::Domain),
+        6 => Some(Refusal::Overflow),
+        7 => Some(Refusal::Operand),
+        8 => Some(Refusal::Capacity),
+        9 => Some(Refusal::NotOpen),
+        10 => Some(Refusal::BadRule),
+        _ => None,
+    }
+}
+
+// `refused 4: `, in front of a reason.
+#[derive(Clone, Copy)]
+pub struct Refused(pub Refusal);
+
+impl fmt::Display for Refused {
+    fn fmt<W: fmt::Write>(&self, f: &mut fmt::Formatter<W>) -> fmt::Result {
+        write!(f, "refused {}: ", u64::from(self.0))
+    }
+}
 
 // `24`, or `24 to 30`.
 #[derive(Clone, Copy)]
