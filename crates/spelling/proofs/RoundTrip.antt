@@ -1,15 +1,15 @@
 -- What is spelled is read back as the same integer: `is_integer-spelled` and `integer-spelled` of the text of every integer, `read_back` of what
 -- spelling puts into a buffer, and what the two calls that read answer for such a text. Assumes nothing.
-use Prim.Native.Nat.{ℕ, zero, suc, ◌+◌, ◌*◌, ◌-◌, ◌/◌, ◌%◌, ◌^◌, ◌≤◌, ◌<◌}
+use Prim.Native.Nat.{ℕ, zero, suc, ◌+◌, ◌*◌, ◌/◌, ◌%◌, ◌^◌, ◌≤◌, ◌<◌}
 use native.Mathlib.Nat.{zero-mul, one-mul, pow-zero, pow-suc, mod-lt, div-add-mod', div-lt_iff_lt-mul}
 use native.Mathlib.Omega.{arith}
 use mathlib.Core.Path.{◌≡◌, refl, sym, ap, ap₂, ◌∙◌, subst}
-use mathlib.Core.Bool.{Bool, true, false, cond, ◌&&◌}
+use mathlib.Core.Bool.{Bool, true, false, ◌&&◌}
 use mathlib.Core.List.{List, [], ◌∷◌, ◌++◌}
-use lib.Dec.{ltb, lit<}
+use lib.Dec.{lit<}
 use lib.IntN.{ℤ, pos, nat_abs}
 use lib.ListN.{length, take}
-use borrow.Author.Tests.{lt-ltb, le-leb, ltb-true, ltb-false}
+use borrow.Author.Tests.{lt-ltb, le-leb}
 use Rattle.bits.specs.Testbit.{is_negative, fits}
 use Rattle.words.specs.Sign.{with_sign}
 use Rattle.bits.proofs.LengthLaws.{mag-lt}
@@ -19,12 +19,12 @@ use Rattle.outcomes.specs.Buffer.{afterwards, count_of}
 use Rattle.outcomes.proofs.OutcomeLaws.{passed}
 use Rattle.outcomes.proofs.BufferLaws.{laid-copy}
 use Rattle.limbwords.specs.Value.{value, limb_count}
-use Rattle.text.specs.Numerals.{digit, are_digits, numeral_from, numeral, byte_at, one_of, zero_base, prefix_base, is_hash, sign_at, is_minus, after_sign, base, is_hex, digits_from, is_integer, integer}
-use Rattle.text.specs.declared.Reading.{Reading}
-use Rattle.text.specs.declared.LimbReading.{LimbReading}
+use Rattle.text.specs.Numerals.{between, digit, are_digits, numeral_from, numeral, byte_at, one_of, zero_base, prefix_base, is_hash, sign_at, is_minus, after_sign, base, is_hex, digits_from, is_integer, integer}
+use Rattle.std.specs.Prelude.{Ok}
+use Rattle.std.proofs.lemmas.Bool.Decides.{nat_tests}
 use Rattle.text.specs.Readings.{reading, enough, limb_reading}
 use Rattle.spelling.specs.Spellings.{glyph, digits, hex_length, spelled, has_capacity, spelling, Spells}
-use Rattle.text.proofs.NumeralLaws.{digit-decimal, digit-lower, pow-hex, are_digits-append, numeral-append}
+use Rattle.text.proofs.NumeralLaws.{pow-hex, are_digits-append, numeral-append}
 use Rattle.spelling.proofs.DigitLaws.{length_digits}
 use Rattle.spelling.proofs.BufferLaws.{dash}
 
@@ -32,12 +32,8 @@ use Rattle.spelling.proofs.BufferLaws.{dash}
 
 -- the byte of a digit is that digit
 digit_glyph : (d : ℕ) → d < 16 → digit (glyph d) ≡ d
-unfolding glyph
-digit_glyph d h = go (ltb d 10) refl
-  where
-    go : (t : Bool) → ltb d 10 ≡ t → digit (cond t (48 + d) (87 + d)) ≡ d
-    go true e = let l = ltb-true d 10 e in let q : 48 + d - 48 ≡ d = omega arith in digit-decimal (48 + d) (omega arith) (omega arith) ∙ q
-    go false e = let l = ltb-false d 10 e in let q : 87 + d - 87 ≡ d = omega arith in digit-lower (87 + d) (omega arith) (omega arith) ∙ q
+unfolding glyph digit between
+digit_glyph d h = grind (arith, nat_tests)
 
 module _ (b : ℕ) (h : 0 < b) (l : b ≤ 16) where
   -- the last digit of n
@@ -124,7 +120,7 @@ read_back xs out r out' s h = (ap is_integer put ∙ is_integer-spelled (value x
 
 -- ---- what the calls that read answer for it
 
-pub reading-spelled : (z : ℤ) → fits 64 z ≡ true → reading (spelled z) ≡ Reading.Number z
+pub reading-spelled : (z : ℤ) → fits 64 z ≡ true → reading (spelled z) ≡ Ok z
 unfolding reading
 reading-spelled z h = rw (is_integer-spelled z, integer-spelled z, h)
 
@@ -138,7 +134,7 @@ enough-spelled z =
     let k = hex_length (nat_abs z) in
     enough-text (is_negative z) (digits 16 k (nat_abs z)) ∙ ap (λ (n : ℕ). (n + 7) / 8 + 1) (length_digits 16 k (nat_abs z))
 
-pub limb_reading-spelled : (z : ℤ) (k : ℕ) → (hex_length (nat_abs z) + 7) / 8 + 1 ≤ k → limb_reading (spelled z) k ≡ LimbReading.Limbs (limb_count z)
+pub limb_reading-spelled : (z : ℤ) (k : ℕ) → (hex_length (nat_abs z) + 7) / 8 + 1 ≤ k → limb_reading (spelled z) k ≡ Ok (limb_count z)
 unfolding limb_reading
 limb_reading-spelled z k h =
     let room = le-leb (enough (spelled z)) k (omega (arith, enough-spelled z)) in

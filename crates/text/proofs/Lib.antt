@@ -7,3 +7,4 @@ pub mod ReadingLaws
 pub mod ReadingLimbs
 pub mod ReadingBuffer
 pub mod NegateLaws
+pub mod DigitValues

@@ -1,54 +1,27 @@
 -- Digits and the numbers that they are: the digit of each byte, digits one after another, and how large their number is. Assumes nothing.
-use Prim.Native.Nat.{ℕ, zero, suc, ◌+◌, ◌*◌, ◌-◌, ◌/◌, ◌%◌, ◌^◌, ◌≤◌, ◌<◌}
+use Prim.Native.Nat.{ℕ, zero, suc, ◌+◌, ◌*◌, ◌/◌, ◌%◌, ◌^◌, ◌≤◌, ◌<◌}
 use native.Mathlib.Nat.{add-mul, mul_assoc, zero-mul, pow-zero, pow-suc, pow-succ', le-mul_of_pos_right, one-le-pow}
 use native.Mathlib.Numerals.{add-one}
 use native.Mathlib.Omega.{arith}
 use mathlib.Core.Path.{◌≡◌, refl, sym, ap, ◌∙◌}
-use mathlib.Core.Bool.{Bool, true, false, cond, ◌&&◌, and_assoc}
+use mathlib.Core.Bool.{Bool, true, ◌&&◌, and_assoc}
 use mathlib.Core.List.{List, [], ◌∷◌, ◌++◌}
 use lib.Arith.{digits_lt, digits_div, digits_mod}
 use lib.Dec.{ltb, lit<}
-use lib.ListN.{length, get_or, take, drop, take-append-drop, drop_of_length-le}
+use lib.ListN.{length, get_or, take, drop, take-append-drop}
 use lib.Pow.{pow-add}
 use lib.Seq.{take-suc, drop-cons}
-use borrow.Author.Tests.{le-leb, lt-leb, lt-ltb, le-ltb, ltb-true}
+use borrow.Author.Tests.{ltb-true}
+use Rattle.std.specs.List.{list_all}
 use Rattle.bits.proofs.Booleans.{both_left, both_right}
-use Rattle.text.specs.Numerals.{between, digit, are_digits, numeral_from, numeral}
-
--- ---- one digit
-
-between_in : (low high c : ℕ) → low ≤ c → c ≤ high → between low high c ≡ true
-unfolding between
-between_in low high c h k = rw (le-leb low c h, le-leb c high k) refl
-
-pub between-below : (low high c : ℕ) → c < low → between low high c ≡ false
-unfolding between
-between-below low high c h = rw (lt-leb low c h) refl
-
-pub between-above : (low high c : ℕ) → low ≤ c → high < c → between low high c ≡ false
-unfolding between
-between-above low high c h k = rw (le-leb low c h, lt-leb c high k) refl
-
--- by the three ranges
-digit-by : (c : ℕ) {decimal upper lower : Bool} → between 48 57 c ≡ decimal → between 65 70 c ≡ upper → between 97 102 c ≡ lower
-    → digit c ≡ cond decimal (c - 48) (cond upper (c - 55) (cond lower (c - 87) 16))
-unfolding digit
-digit-by c p q r = rw (p, q, r) refl
-
-pub digit-decimal : (c : ℕ) → 48 ≤ c → c ≤ 57 → digit c ≡ c - 48
-digit-decimal c h k = digit-by c (between_in 48 57 c h k) refl refl
-
-pub digit-upper : (c : ℕ) → 65 ≤ c → c ≤ 70 → digit c ≡ c - 55
-digit-upper c h k = digit-by c (between-above 48 57 c (omega arith) (omega arith)) (between_in 65 70 c h k) refl
-
-pub digit-lower : (c : ℕ) → 97 ≤ c → c ≤ 102 → digit c ≡ c - 87
-digit-lower c h k =
-    digit-by c (between-above 48 57 c (omega arith) (omega arith)) (between-above 65 70 c (omega arith) (omega arith)) (between_in 97 102 c h k)
-
-pub digit-none : (c : ℕ) → between 48 57 c ≡ false → between 65 70 c ≡ false → between 97 102 c ≡ false → digit c ≡ 16
-digit-none c p q r = digit-by c p q r
+use Rattle.text.specs.Numerals.{digit, are_digits, numeral_from, numeral}
 
 -- ---- lists of digits
+
+pub are_digits-all : (b : ℕ) (cs : List ℕ) → are_digits b cs ≡ list_all (λ (c : ℕ). ltb (digit c) b) cs
+unfolding are_digits
+are_digits-all b [] = refl
+are_digits-all b (c ∷ cs) = ap (λ (t : Bool). ltb (digit c) b && t) (are_digits-all b cs)
 
 pub are_digits-append : (b : ℕ) (xs ys : List ℕ) → are_digits b (xs ++ ys) ≡ are_digits b xs && are_digits b ys
 unfolding are_digits
@@ -60,16 +33,6 @@ are_digits-append b (c ∷ xs) ys =
 are_digits-drop : (b : ℕ) (cs : List ℕ) (i : ℕ) → i < length cs → are_digits b (drop i cs) ≡ ltb (digit (get_or cs i 0)) b && are_digits b (drop (i + 1) cs)
 unfolding are_digits
 are_digits-drop b cs i h = rw (add-one, drop-cons cs i 0 h) refl
-
-pub are_digits-stop : (b : ℕ) (cs : List ℕ) (i : ℕ) → i < length cs → b ≤ digit (get_or cs i 0) → are_digits b (drop i cs) ≡ false
-are_digits-stop b cs i h k = are_digits-drop b cs i h ∙ ap (λ (t : Bool). t && are_digits b (drop (i + 1) cs)) (le-ltb (digit (get_or cs i 0)) b k)
-
-pub are_digits-next : (b : ℕ) (cs : List ℕ) (i : ℕ) → i < length cs → digit (get_or cs i 0) < b → are_digits b (drop i cs) ≡ are_digits b (drop (i + 1) cs)
-are_digits-next b cs i h k = are_digits-drop b cs i h ∙ ap (λ (t : Bool). t && are_digits b (drop (i + 1) cs)) (lt-ltb (digit (get_or cs i 0)) b k)
-
-pub are_digits-end : (b : ℕ) (cs : List ℕ) (i : ℕ) → length cs ≤ i → are_digits b (drop i cs) ≡ true
-unfolding are_digits
-are_digits-end b cs i h = rw (drop_of_length-le cs h) refl
 
 are_digits-left : (b : ℕ) (xs ys : List ℕ) → are_digits b (xs ++ ys) ≡ true → are_digits b xs ≡ true
 are_digits-left b xs ys e = both_left (are_digits b xs) (are_digits b ys) (sym (are_digits-append b xs ys) ∙ e)

@@ -15,11 +15,12 @@ use Rattle.bits.proofs.LengthLaws.{bit_length-le}
 use Rattle.limbwords.specs.Value.{value, limbs_of, limb_count, shortest}
 use Rattle.limbwords.proofs.ValueLaws.{length-limbs_of, value-limbs_of}
 use Rattle.words.proofs.SignedLaws.{nat_abs-with_sign}
-use Rattle.text.specs.declared.LimbReading.{LimbReading}
-use Rattle.text.specs.Numerals.{are_digits, numeral, is_minus, base, is_hex, digits_from, is_integer, integer}
+use Rattle.text.specs.declared.ReadError.{ReadError}
+use Rattle.std.specs.Prelude.{Result, Ok, Err}
+use Rattle.text.specs.Numerals.{are_digits, numeral, is_hex, is_integer, integer}
 use Rattle.text.specs.Readings.{enough, limb_reading, Holds}
-use Rattle.text.specs.Inner.{Lays}
-use Rattle.text.proofs.ReadingParts.{rest, rest-length, hex-is, integer-is}
+use Rattle.text.specs.Inner.{Lays, IsNumeral}
+use Rattle.text.proofs.ReadingParts.{digits-length, hex-is, integer-is}
 use Rattle.text.proofs.NumeralLimbs.{numeral-below, put-length}
 
 -- ---- the natural number, before it has its sign
@@ -53,17 +54,17 @@ module _ (n m : ℕ) (first : List ℕ) {out : List ℕ} (e : out ≡ limbs_of n
 
 -- ---- what is laid
 
-pub lays-none : (z : ℤ) (out : List ℕ) {fits : Bool} → fits ≡ false → Lays z fits LimbReading.TooLarge out
+pub lays-none : (z : ℤ) (out : List ℕ) {fits : Bool} → fits ≡ false → Lays z fits (Err ReadError.TooLarge) out
 lays-none z out {fits} e = record { answer = rw e refl; limbs = λ q. absurd (true≢false (sym q ∙ e)) }
 
 pub lays-first : (z : ℤ) (part rest : List ℕ) {r : ℕ} → r ≡ limb_count z → take r part ≡ shortest z → r ≤ length part
-    → Lays z true (LimbReading.Limbs r) (part ++ rest)
+    → Lays z true (Ok r) (part ++ rest)
 lays-first z part rest {r} e f h = record {
-  answer = ap LimbReading.Limbs e;
+  answer = ap Ok e;
   limbs = λ q. ap (λ (n : ℕ). take n (part ++ rest)) (sym e) ∙ take-append-le r part rest h ∙ f;
 }
 
-pub lays-as : {z y : ℤ} {fits : Bool} {r : LimbReading} {out : List ℕ} → Lays z true r out → z ≡ y → fits ≡ true → Lays y fits r out
+pub lays-as : {z y : ℤ} {fits : Bool} {r : Result ℕ ReadError} {out : List ℕ} → Lays z true r out → z ≡ y → fits ≡ true → Lays y fits r out
 lays-as {z} {y} {fits} {r} {out} w e f = subst (λ (t : Bool). Lays y t r out) (sym f) (subst (λ (x : ℤ). Lays x true r out) e w)
 
 -- ---- what the call answers
@@ -72,31 +73,31 @@ lays-as {z} {y} {fits} {r} {out} w e f = subst (λ (t : Bool). Lays y t r out) (
 abbrev pub limbs_fit : List ℕ → ℕ → Bool
 limbs_fit cs k = (is_hex cs || ltb (nat_abs (integer cs)) (2 ^ 64)) && leb (enough cs) k
 
-module _ (cs : List ℕ) (k : ℕ) {b start : ℕ} (f : b ≡ base cs) (s : start ≡ digits_from cs) where
-  pub hexadecimal-fits : b ≡ 16 → limbs_fit cs k ≡ leb ((length (rest cs f s) + 7) / 8 + 1) k
+module _ (cs : List ℕ) (k : ℕ) {negative : Bool} {b : ℕ} {ds : List ℕ} (w : IsNumeral cs negative b ds) where
+  pub hexadecimal-fits : b ≡ 16 → limbs_fit cs k ≡ leb ((length ds + 7) / 8 + 1) k
   unfolding enough
-  hexadecimal-fits h = rw (hex-is cs f s ∙ eq-eqb b 16 h, rest-length cs f s) refl
+  hexadecimal-fits h = rw (hex-is cs w ∙ eq-eqb b 16 h, digits-length cs w) refl
 
-  pub bounded-fits : {negative : Bool} → negative ≡ is_minus cs → (b ≡ 16 → ⊥) → limbs_fit cs k ≡ ltb (numeral b (rest cs f s)) (2 ^ 64) && leb 3 k
+  pub bounded-fits : (b ≡ 16 → ⊥) → limbs_fit cs k ≡ ltb (numeral b ds) (2 ^ 64) && leb 3 k
   unfolding enough
-  bounded-fits {negative} n h =
-      rw (hex-is cs f s ∙ ne_eqb b 16 h)
-      (ap (λ (m : ℕ). ltb m (2 ^ 64) && leb 3 k) (ap nat_abs (integer-is cs f s n) ∙ nat_abs-with_sign negative (numeral b (rest cs f s))))
+  bounded-fits h =
+      rw (hex-is cs w ∙ ne_eqb b 16 h)
+      (ap (λ (m : ℕ). ltb m (2 ^ 64) && leb 3 k) (ap nat_abs (integer-is cs w) ∙ nat_abs-with_sign negative (numeral b ds)))
 
 pub limbs-malformed : (cs : List ℕ) (k : ℕ) (out : List ℕ) → is_integer cs ≡ false
-    → (LimbReading.Malformed ≡ limb_reading cs k) × Holds cs LimbReading.Malformed out
+    → (Err ReadError.Malformed ≡ limb_reading cs k) × Holds cs (Err ReadError.Malformed) out
 unfolding limb_reading
 limbs-malformed cs k out e = (rw e refl, record { limbs = λ n q. let z : ◌≡◌ {A = ℕ} 0 1 = cc in absurd (omega arith) })
 
-pub limbs-read : (cs : List ℕ) (k : ℕ) {z : ℤ} {fits : Bool} {r : LimbReading} {out : List ℕ} → is_integer cs ≡ true → integer cs ≡ z
+pub limbs-read : (cs : List ℕ) (k : ℕ) {z : ℤ} {fits : Bool} {r : Result ℕ ReadError} {out : List ℕ} → is_integer cs ≡ true → integer cs ≡ z
     → limbs_fit cs k ≡ fits → Lays z fits r out → (r ≡ limb_reading cs k) × Holds cs r out
 unfolding limb_reading
 limbs-read cs k {z} {fits} {r} {out} e f g w = (
-  w.answer ∙ sym (rw (e, g) (ap (λ (y : ℤ). cond fits (LimbReading.Limbs (limb_count y)) LimbReading.TooLarge) f)),
+  w.answer ∙ sym (rw (e, g) (ap (λ (y : ℤ). cond fits (Ok (limb_count y)) (Err ReadError.TooLarge)) f)),
   record { limbs = λ n q. go fits w n q },
 )
   where
-    go : (t : Bool) → Lays z t r out → (n : ℕ) → r ≡ LimbReading.Limbs n → take n out ≡ shortest (integer cs)
+    go : (t : Bool) → Lays z t r out → (n : ℕ) → r ≡ Ok n → take n out ≡ shortest (integer cs)
     go true v n q =
         let a = v.answer in
         let s : n ≡ limb_count z = cc in

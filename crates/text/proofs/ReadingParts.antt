@@ -7,13 +7,13 @@ use mathlib.Core.Logic.{◌⊎◌, inl, inr, ⊎_elim}
 use mathlib.Core.List.{List}
 use lib.Dec.{eqb, ltb}
 use lib.ListN.{length, take, drop, length-drop, get_or}
-use borrow.Author.Tests.{lt-ltb, le-ltb, ltb-true, eq-eqb, ne_eqb}
+use borrow.Author.Tests.{lt-ltb, le-ltb, eq-eqb, ne_eqb}
 use borrow.Author.Rules.{part_to_end}
 use Rattle.text.specs.declared.form.Parts.{Parts}
 use Rattle.words.specs.Sign.{with_sign}
-use Rattle.bits.proofs.Booleans.{both_left, both_right, and_second}
+use Rattle.bits.proofs.Booleans.{and_second}
 use Rattle.text.specs.Numerals.{digit, are_digits, numeral, byte_at, one_of, letter_base, zero_base, prefix_base, is_hash, sign_at, is_minus, after_sign, base, is_hex, digits_from, is_integer, integer}
-use Rattle.text.specs.Inner.{parts}
+use Rattle.text.specs.Inner.{parts, IsNumeral}
 use Rattle.text.proofs.NumeralLaws.{digit_at}
 
 -- ---- one byte
@@ -97,15 +97,8 @@ module _ (cs : List ℕ) {b start : ℕ} (f : b ≡ base cs) (s : start ≡ digi
   abbrev pub rest : List ℕ
   rest = take (length cs - start) (drop start cs)
 
-  rest-is : rest ≡ drop (digits_from cs) cs
+  pub rest-is : rest ≡ drop (digits_from cs) cs
   rest-is = part_to_end cs start ∙ ap (λ (n : ℕ). drop n cs) s
-
-  pub rest-length : length rest ≡ length cs - digits_from cs
-  rest-length = ap length rest-is ∙ length-drop (digits_from cs) cs
-
-  pub hex-is : is_hex cs ≡ eqb b 16
-  unfolding is_hex
-  hex-is = ap (λ (n : ℕ). eqb n 16) (sym f)
 
   pub too_short : length cs ≤ start → is_integer cs ≡ false
   unfolding is_integer
@@ -114,31 +107,29 @@ module _ (cs : List ℕ) {b start : ℕ} (f : b ≡ base cs) (s : start ≡ digi
   digits_are : are_digits (base cs) (drop (digits_from cs) cs) ≡ are_digits b rest
   digits_are = cc (f, rest-is)
 
-  -- no byte may be another than a digit
-  pub all_digits : start < length cs → is_integer cs ≡ are_digits b rest
-  unfolding is_integer
-  all_digits h =
-      sym (and_second (ltb (digits_from cs) (length cs)) (are_digits (base cs) (drop (digits_from cs) cs))
-      (lt-ltb (digits_from cs) (length cs) (subst (λ (n : ℕ). n < length cs) s h)))
-      ∙ digits_are
-
-  pub integer-is : {negative : Bool} → negative ≡ is_minus cs → integer cs ≡ with_sign negative (numeral b rest)
-  unfolding integer
-  integer-is n = cc (n, f, rest-is)
-
-  module _ (h : is_integer cs ≡ true) where
-    pub start-in : start < length cs
+  module _ (h : start < length cs) where
+    -- no byte may be another than a digit
+    pub all_digits : is_integer cs ≡ are_digits b rest
     unfolding is_integer
-    start-in =
-        subst (λ (n : ℕ). n < length cs) (sym s)
-        (ltb-true (digits_from cs) (length cs) (both_left (ltb (digits_from cs) (length cs)) (are_digits (base cs) (drop (digits_from cs) cs)) h))
-
-    pub digits_of : are_digits b rest ≡ true
-    unfolding is_integer
-    digits_of = sym digits_are ∙ both_right (ltb (digits_from cs) (length cs)) (are_digits (base cs) (drop (digits_from cs) cs)) h
+    all_digits =
+        sym (and_second (ltb (digits_from cs) (length cs)) (are_digits (base cs) (drop (digits_from cs) cs))
+        (lt-ltb (digits_from cs) (length cs) (subst (λ (n : ℕ). n < length cs) s h)))
+        ∙ digits_are
 
     -- there is a digit, so there is a base
-    pub base-bounds : (0 < b) × (b ≤ 16)
-    base-bounds =
-        let d : digit (get_or rest 0 0) < b = digit_at b rest 0 digits_of (omega (arith, rest-length, s, start-in)) in
+    pub base-bounds : are_digits b rest ≡ true → (0 < b) × (b ≤ 16)
+    base-bounds e =
+        let d : digit (get_or rest 0 0) < b = digit_at b rest 0 e (omega (arith, ap length rest-is, length-drop (digits_from cs) cs, s, h)) in
         (omega arith, omega (arith, f, base-small cs))
+
+module _ (cs : List ℕ) {negative : Bool} {b : ℕ} {ds : List ℕ} (w : IsNumeral cs negative b ds) where
+  pub hex-is : is_hex cs ≡ eqb b 16
+  unfolding is_hex
+  hex-is = ap (λ (n : ℕ). eqb n 16) (sym w.base)
+
+  pub digits-length : length ds ≡ length cs - digits_from cs
+  digits-length = ap length w.digits ∙ length-drop (digits_from cs) cs
+
+  pub integer-is : integer cs ≡ with_sign negative (numeral b ds)
+  unfolding integer
+  integer-is = cc (w.sign, w.base, w.digits)

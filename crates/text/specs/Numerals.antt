@@ -1,6 +1,7 @@
 -- Texts and the integers that they are. A text is a list of bytes, in ASCII: a prefix that begins with #, a sign or none, and digits; or a sign
 -- or none, 0x, 0b or neither, and digits.
 --   digit c           ==  the digit that the byte c is: 0 to 9, a to f, A to F; 16, above every digit, where it is none
+--   digit_of c        ==  the digit that it is, or none
 --   are_digits b cs    ==  whether each byte is a digit in base b
 --   numeral b cs      ==  the number that digits in base b are, the most significant first
 --   byte_at cs i       ==  the byte at i, or 0 after the end
@@ -17,7 +18,7 @@
 --   digits_from cs     ==  where the digits begin: after the sign, and after 0x or 0b
 --   is_integer cs      ==  whether the text is an integer: from there on, one digit or more, and nothing else
 --   integer cs        ==  the integer that it is
-use Rattle.std.specs.Prelude.{ℕ, ◌+◌, ◌-◌, ◌*◌, Bool, true, cond, ◌&&◌, ◌||◌, List, [], ◌∷◌, eqb, leb, ltb, ℤ, length, get_or, drop}
+use Rattle.std.specs.Prelude.{ℕ, ◌+◌, ◌-◌, ◌*◌, Bool, true, cond, ◌&&◌, ◌||◌, List, [], ◌∷◌, eqb, leb, ltb, ℤ, length, get_or, drop, Option, Some, None}
 use Rattle.words.specs.Sign.{with_sign}
 
 unfoldable pub between : ℕ → ℕ → ℕ → Bool
@@ -25,6 +26,9 @@ between low high c = leb low c && leb c high
 
 unfoldable pub digit : ℕ → ℕ
 digit c = cond (between 48 57 c) (c - 48) (cond (between 65 70 c) (c - 55) (cond (between 97 102 c) (c - 87) 16))
+
+unfoldable pub digit_of : ℕ → Option ℕ
+digit_of c = cond (ltb (digit c) 16) (Some (digit c)) None
 
 unfoldable pub are_digits : ℕ → List ℕ → Bool
 are_digits b [] = true

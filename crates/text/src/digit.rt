@@ -1,29 +1,16 @@
 // Digits.
 ghost use Rattle.std.specs.Prelude.{◌≡◌};
-ghost use Rattle.text.specs.Numerals as numerals;
-ghost use Rattle.text.specs.Numerals.{are_digits};
+ghost use Rattle.text.specs.Numerals.{digit_of, are_digits};
 
-// The digit that a byte is, or 16.
-pub fn digit(c: u8) -> u64
-    ensures { result ≡ numerals.digit c }
+// The digit that a byte is, in base 16 or below.
+pub fn digit(c: u8) -> Option<u64>
+    ensures { result ≡ digit_of c }
 {
-    match c {
-        b'0'..=b'9' => (c - 48) as u64,
-        b'A'..=b'F' => (c - 55) as u64,
-        b'a'..=b'f' => (c - 87) as u64,
-        _ => 16,
-    }
+    char::from(c).to_digit(16).map(u64::from)
 }
 
 pub fn are_digits(base: u64, text: &[u8]) -> bool
     ensures { result ≡ are_digits base text.now }
 {
-    let mut i = 0;
-    while i < text.len() {
-        if base <= digit(text[i]) {
-            return false;
-        }
-        i += 1;
-    }
-    true
+    text.iter().all(|&c| digit(c).unwrap_or(16) < base)
 }

@@ -1,16 +1,27 @@
 // The parts of a text: its sign, its base and its digits.
-ghost use Rattle.std.specs.Prelude.{◌≡◌, true, false, cond, ◌+◌, ◌<◌, ◌≤◌};
-ghost use Rattle.text.specs.Numerals as numerals;
-ghost use Rattle.text.specs.Numerals.{byte_at, one_of, letter_base, zero_base, prefix_base, is_hash, digits_from, is_integer};
-ghost use Rattle.text.specs.Inner.{parts};
+ghost use Rattle.std.specs.Prelude.{◌≡◌, true, false, cond, ◌+◌, ◌<◌, ◌≤◌, MatchResult};
+ghost use Rattle.text.specs.Numerals.{byte_at, one_of, letter_base, zero_base, prefix_base, is_hash, are_digits, is_integer};
+ghost use Rattle.text.specs.Inner.{parts, IsNumeral};
+ghost use Rattle.text.specs.declared.ReadError.{ReadError};
 
+use super::ReadError;
 use super::digit::are_digits;
 
-#[derive(Drop)]
+#[derive(Clone, Copy)]
 pub struct Parts {
     pub negative: bool,
     pub base: u64,
     pub start: usize,
+}
+
+// An integer as it is written.
+#[derive(Clone, Copy)]
+pub struct Numeral<'a> {
+    pub negative: bool,
+    pub base: u64,
+    pub digits: &'a [u8],
+    ghost base_bounds: { (0 < base) × (base ≤ 16) },
+    ghost are_digits: { are_digits base digits.now ≡ true },
 }
 
 // A byte of the text, or 0 after its end.
@@ -103,7 +114,7 @@ fn without_hash(text: &[u8]) -> Parts
     }
 }
 
-pub fn take_apart(text: &[u8]) -> Parts
+fn take_apart(text: &[u8]) -> Parts
     ensures { result ≡ parts text.now }
 {
     if byte_at(text, 0) == b'#' {
@@ -113,13 +124,21 @@ pub fn take_apart(text: &[u8]) -> Parts
     }
 }
 
-// Whether a text is an integer: one digit or more, from where they begin to its end.
-pub fn is_integer(base: u64, start: usize, text: &[u8]) -> bool
-    requires { (base ≡ numerals.base text.now) × (start ≡ digits_from text.now) }
-    ensures { result ≡ is_integer text.now }
+// The sign, the base and the digits of the integer that a text is: one digit or more, to the end of the text.
+pub fn read_numeral(text: &[u8]) -> Result<Numeral<'_>, ReadError>
+    ensures { MatchResult result (λ n. IsNumeral text.now n.negative n.base n.digits.now) (λ e. (e ≡ ReadError.Malformed) × (is_integer text.now ≡ false)) }
 {
-    if text.len() <= start {
-        return false;
+    let Parts {
+        negative,
+        base,
+        start,
+    } = take_apart(text);
+    if text.len() <= start || !are_digits(base, &text[start..]) {
+        return Err(ReadError::Malformed);
     }
-    are_digits(base, &text[start..])
+    Ok(Numeral {
+        negative,
+        base,
+        digits: &text[start..],
+    })
 }

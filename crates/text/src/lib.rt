@@ -11,25 +11,9 @@ pub use form::byte_at;
 pub use long::read_limbs;
 pub use word::{read_word, sum_digits};
 
-// What a text is as one signed 64-bit word.
-#[derive(Drop)]
-pub enum Reading {
-    Number(i64),
+// Why a text is read as no integer: it is none, or one that there is no room for.
+#[derive(Clone, Copy, Debug, PartialEq, Eq)]
+pub enum ReadError {
     Malformed,
     TooLarge,
-}
-
-// What a text is as limbs: how many it has.
-#[derive(Drop)]
-pub enum LimbReading {
-    Limbs(u64),
-    Malformed,
-    TooLarge,
-}
-
-// What digits are as one word.
-#[derive(Drop)]
-pub enum Natural {
-    Value(u64),
-    Beyond,
 }

@@ -1,5 +1,5 @@
 // A text as limbs.
-ghost use Rattle.std.specs.Prelude.{◌≡◌, true, false, ◌&&◌, ◌++◌, ◌<◌, ◌≤◌, ◌+◌, ◌/◌, ◌^◌, leb, ltb, pos, nat_abs, length, take, drop};
+ghost use Rattle.std.specs.Prelude.{◌≡◌, Ok, true, false, ◌&&◌, ◌++◌, ◌<◌, ◌≤◌, ◌+◌, ◌/◌, ◌^◌, leb, ltb, pos, nat_abs, length, take, drop};
 ghost use Rattle.bits.specs.Testbit.{is_negative};
 ghost use Rattle.words.specs.Sign.{with_sign};
 ghost use Rattle.limbwords.specs.Value.{value, limb_count, limbs_of, shortest};
@@ -7,10 +7,10 @@ ghost use Rattle.text.specs.Numerals.{are_digits, numeral};
 ghost use Rattle.text.specs.Readings.{Holds, limb_reading};
 ghost use Rattle.text.specs.Inner.{Lays};
 
-use super::form::{is_integer, take_apart};
+use super::ReadError;
+use super::form::{Numeral, read_numeral};
 use super::negate::negate;
 use super::word::sum_digits;
-use super::{LimbReading, Natural};
 use limbmeasure::shortest_length;
 
 // Up to eight hexadecimal digits as a limb.
@@ -18,10 +18,7 @@ fn digits_limb(digits: &[u8]) -> u32
     requires { (are_digits 16 digits.now ≡ true) × (length digits.now ≤ 8) }
     ensures { result ≡ numeral 16 digits.now }
 {
-    match sum_digits(16, digits) {
-        Natural::Value(n) => (n % 0x1_0000_0000) as u32,
-        Natural::Beyond => 0,
-    }
+    sum_digits(16, digits).unwrap() as u32
 }
 
 // Puts the limbs of hexadecimal digits at the start of out, eight digits to a limb, and a limb 0 for the sign. Answers how many they are.
@@ -67,57 +64,58 @@ fn set_sign(negative: bool, x: &mut [u32]) -> usize
 }
 
 // The same of the number whose limbs are the first n.
-fn sign_first(negative: bool, n: usize, out: &mut [u32]) -> LimbReading
+fn sign_first(negative: bool, n: usize, out: &mut [u32]) -> usize
     requires n_nonzero { (0 < n) × (n ≤ length out.old) }
     requires out_value { is_negative (value (take n out.old)) ≡ false }
-    ensures { Lays (with_sign negative (nat_abs (value (take n out.old)))) true result out.new }
+    ensures { Lays (with_sign negative (nat_abs (value (take n out.old)))) true (Ok result) out.new }
 {
-    LimbReading::Limbs(set_sign(negative, &mut out[..n]) as u64)
+    set_sign(negative, &mut out[..n])
 }
 
 // Digits with a sign, in hexadecimal: there is no limit but that of the buffer.
-fn read_hexadecimal(negative: bool, digits: &[u8], out: &mut [u32]) -> LimbReading
+fn read_hexadecimal(negative: bool, digits: &[u8], out: &mut [u32]) -> Result<usize, ReadError>
     requires { are_digits 16 digits.now ≡ true }
     ensures { Lays (with_sign negative (numeral 16 digits.now)) (leb ((length digits.now + 7) / 8 + 1) (length out.old)) result out.new }
 {
     if out.len() <= (digits.len() + 7) / 8 {
-        return LimbReading::TooLarge;
+        return Err(ReadError::TooLarge);
     }
     let n = put_digits(digits, out);
-    sign_first(negative, n, out)
+    Ok(sign_first(negative, n, out))
 }
 
 // In another base, below 2^64.
-fn read_bounded(negative: bool, base: u64, digits: &[u8], out: &mut [u32]) -> LimbReading
+fn read_bounded(
+    negative: bool,
+    base: u64,
+    digits: &[u8],
+    out: &mut [u32],
+) -> Result<usize, ReadError>
     requires base_nonzero { (0 < base) × (base ≤ 16) }
     requires digits_value { are_digits base digits.now ≡ true }
     ensures { Lays (with_sign negative (numeral base digits.now)) (ltb (numeral base digits.now) (2 ^ 64) && leb 3 (length out.old)) result out.new }
 {
     if out.len() < 3 {
-        return LimbReading::TooLarge;
+        return Err(ReadError::TooLarge);
     }
-    match sum_digits(base, digits) {
-        Natural::Value(n) => {
-            put_word(n, out);
-            sign_first(negative, 3, out)
-        }
-        Natural::Beyond => LimbReading::TooLarge,
-    }
+    let n = sum_digits(base, digits).ok_or(ReadError::TooLarge)?;
+    put_word(n, out);
+    Ok(sign_first(negative, 3, out))
 }
 
 // Puts the shortest limbs of the integer that a text is at the start of out. Limbs after them are work space.
-pub fn read_limbs(text: &[u8], out: &mut [u32]) -> LimbReading
+pub fn read_limbs(text: &[u8], out: &mut [u32]) -> Result<usize, ReadError>
     ensures value { result ≡ limb_reading text.now (length out.old) }
     ensures holds { Holds text.now result out.new }
 {
-    let parts = take_apart(text);
-    let start = parts.start;
-    if !is_integer(parts.base, start, text) {
-        return LimbReading::Malformed;
-    }
-    if parts.base == 16 {
-        read_hexadecimal(parts.negative, &text[start..], out)
+    let Numeral {
+        negative,
+        base,
+        digits,
+    } = read_numeral(text)?;
+    if base == 16 {
+        read_hexadecimal(negative, digits, out)
     } else {
-        read_bounded(parts.negative, parts.base, &text[start..], out)
+        read_bounded(negative, base, digits, out)
     }
 }

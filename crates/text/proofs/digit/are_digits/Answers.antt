@@ -1,24 +1,16 @@
--- `text::digit::are_digits` meets its contract. The invariant: the bytes from i on are digits where all are. Assumes nothing.
-use Prim.Native.Nat.{zero-le}
-use native.Mathlib.Omega.{arith}
-use mathlib.Core.Path.{refl, sym, ◌∙◌}
-use Rattle.text.proofs.NumeralLaws.{are_digits-stop, are_digits-next, are_digits-end}
+-- `text::digit::are_digits` meets its contract. Assumes nothing.
+use mathlib.Core.Path.{sym, ◌∙◌}
+use lib.Dec.{ltb}
+use borrow.Author.Rules.{rules}
+use borrow.Author.Tests.{tests}
+use Rattle.std.proofs.lemmas.Iterator.{YieldsList-from_slice}
+use Rattle.std.proofs.lemmas.Iterator.Search.{all_from_yields_List}
+use Rattle.text.specs.Numerals.{digit}
+use Rattle.text.proofs.NumeralLaws.{are_digits-all}
+use Rattle.text.proofs.DigitValues.{digit_or}
 use Rattle.text.proofs.digit.are_digits.Goals as goal
 
-pub loop-i-init : goal.loop-i-init
-loop-i-init c = (zero-le, refl)
-
-pub returns-then-base-digit : goal.returns-then-base-digit
-returns-then-base-digit c =
-    let l = c.loop-i in
-    let e = c.digit.ensures in
-    sym (sym l.invariant.1 ∙ are_digits-stop _ _ l.i (omega arith) (omega (arith, e)))
-
-pub loop-i-preserved : goal.loop-i-preserved
-loop-i-preserved c =
-    let l = c.loop-i in
-    let e = c.digit.ensures in
-    (omega arith, sym (are_digits-next _ _ l.i (omega arith) (omega (arith, e))) ∙ l.invariant.1)
-
 pub returns : goal.returns
-returns c = sym (sym c.loop-i.invariant.1 ∙ are_digits-end _ _ c.loop-i.i c.loop-i-test.false)
+returns c =
+    let a = c.args in
+    all_from_yields_List (λ x. ltb (digit x) a.base) _ _ c.all.result c.all.ensures.ran (YieldsList-from_slice a.text.now cc) (λ x b q k. search (rules, tests, digit_or)) ∙ sym (are_digits-all a.base a.text.now)

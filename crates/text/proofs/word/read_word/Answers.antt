@@ -1,66 +1,47 @@
 -- `text::word::read_word` meets its contract. Assumes nothing.
-use Prim.Native.Nat.{◌≤◌}
-use native.Mathlib.Nat.{le_of_lt}
 use mathlib.Core.Path.{◌≡◌, sym, ap, ◌∙◌}
-use mathlib.Core.Bool.{Bool, true, cond}
-use lib.ListN.{length}
+use mathlib.Core.Bool.{Bool, cond}
+use Prim.Native.Nat.{ℕ}
+use Rattle.std.specs.Prelude.{Option, Ok, Err, ok_or}
+use Rattle.std.proofs.lemmas.Result.{err_from_is_err_and}
 use Rattle.words.specs.Sign.{with_sign}
 use Rattle.words.proofs.WordLaws.{back}
-use Rattle.text.specs.declared.Reading.{Reading}
-use Rattle.text.specs.Numerals.{is_integer, integer, numeral}
+use Rattle.text.specs.declared.ReadError.{ReadError}
+use Rattle.text.specs.Numerals.{numeral}
 use Rattle.text.specs.Readings.{reading}
-use Rattle.text.proofs.ReadingParts.{negative-is, base-is, start_is, rest, integer-is, start-in, digits_of, base-bounds}
-use Rattle.text.proofs.ReadingLaws.{value-as_word, reading-malformed, reading-by, reading-beyond}
+use Rattle.text.specs.Inner.{as_word}
+use Rattle.text.proofs.ReadingParts.{integer-is}
+use Rattle.text.proofs.ReadingLaws.{ok-as_word, err-as_word, reading-malformed, reading-by, reading-beyond}
 use Rattle.text.proofs.word.read_word.Goals as goal
-use Rattle.text.proofs.word.read_word.Goals.{After-absolute_fits, After-take_apart-parts, Else-not-is_integer}
+use Rattle.text.proofs.word.read_word.Goals.{After-ok_or, After-absolute_fits}
 
-pub is_integer-requires : goal.is_integer-requires
-is_integer-requires c = let e = c.take_apart-parts.ensures in (base-is _ e, start_is _ e)
+pub returns-in_err-numeral : goal.returns-in_err-numeral
+returns-in_err-numeral c =
+    let h = c.in_err-numeral.ensures in
+    let p = err_from_is_err_and c.from_residual.result c.from_residual.ensures.1 in
+    rw (p.1, p.2, h.0) (sym (reading-malformed _ h.1))
 
-pub returns-then-not-is_integer : goal.returns-then-not-is_integer
-returns-then-not-is_integer c = sym (reading-malformed _ (sym c.is_integer.ensures ∙ c.if-not-is_integer.true))
+word : (c : After-ok_or) → c.ok_or.result ≡ ok_or (as_word (numeral c.in_ok-numeral.numeral.base c.in_ok-numeral.numeral.digits.now)) ReadError.TooLarge
+word c = c.ok_or.ensures.value ∙ ap (λ (o : Option ℕ). ok_or o ReadError.TooLarge) c.sum_digits.ensures
 
--- where it is an integer
-integral : (c : Else-not-is_integer) → is_integer c.args.text.now ≡ true
-integral c = sym c.is_integer.ensures ∙ c.if-not-is_integer.false
-
--- its digits begin in the text
-starts : (c : Else-not-is_integer) → c.take_apart-parts.result.start ≤ length c.args.text.now
-starts c = let e = c.take_apart-parts.ensures in le_of_lt (start-in _ (base-is _ e) (start_is _ e) (integral c))
-
-number : (c : After-take_apart-parts) → let a = c.args.text.now in let p = c.take_apart-parts.result in let e = c.take_apart-parts.ensures in
-    integer a ≡ with_sign p.negative (numeral p.base (rest a (base-is _ e) (start_is _ e)))
-number c = let e = c.take_apart-parts.ensures in integer-is _ (base-is _ e) (start_is _ e) (negative-is _ e)
-
-pub sum_digits-requires : goal.sum_digits-requires
-sum_digits-requires c =
-    let e = c.take_apart-parts.ensures in
-    record { base_nonzero = base-bounds _ (base-is _ e) (start_is _ e) (integral (goal.at.sum_digits-requires c).Else-not-is_integer); text_value = digits_of _ (base-is _ e) (start_is _ e) (integral (goal.at.sum_digits-requires c).Else-not-is_integer) }
-
-pub from_absolute-requires : goal.from_absolute-requires
-from_absolute-requires c = sym c.absolute_fits.ensures ∙ c.if-absolute_fits.true
+pub returns-in_err-n : goal.returns-in_err-n
+returns-in_err-n c =
+    let w = c.in_ok-numeral.ensures in
+    let x = err-as_word _ (word (goal.at.returns-in_err-n c).After-ok_or) c.in_err-n.was in
+    let p = err_from_is_err_and c.from_residual-in_err-n.result c.from_residual-in_err-n.ensures.1 in
+    rw (p.1, p.2, x.1) (sym (reading-beyond _ _ _ w.integral (integer-is _ w) x.0))
 
 -- the text of a number below 2^64
-value-reading : (c : After-absolute_fits) {t : Bool} → c.absolute_fits.result ≡ t → reading c.args.text.now ≡ cond t (Reading.Number (with_sign c.take_apart-parts.result.negative c.in-Value.n)) Reading.TooLarge
+value-reading : (c : After-absolute_fits) {t : Bool} → c.absolute_fits.result ≡ t → reading c.args.text.now ≡ cond t (Ok (with_sign c.in_ok-numeral.numeral.negative c.in_ok-n.n)) (Err ReadError.TooLarge)
 value-reading c f =
-    let v = value-as_word _ _ (sym c.sum_digits.ensures ∙ c.in-Value.is) in
-    let e = c.take_apart-parts.ensures in
-    reading-by _ (sym c.is_integer.ensures ∙ c.if-not-is_integer.false) (integer-is _ (base-is _ e) (start_is _ e) (negative-is _ e) ∙ ap (with_sign c.take_apart-parts.result.negative) v.0) (sym c.absolute_fits.ensures ∙ f)
+    let w = c.in_ok-numeral.ensures in
+    let v = ok-as_word _ (word (goal.at.After-absolute_fits c).After-ok_or) c.in_ok-n.was in
+    reading-by _ w.integral (integer-is _ w ∙ ap (with_sign c.in_ok-numeral.numeral.negative) v.0) (sym c.absolute_fits.ensures ∙ f)
 
-pub returns-then-absolute_fits : goal.returns-then-absolute_fits
-returns-then-absolute_fits c =
-    ap Reading.Number (back (record { sfits = c.from_absolute.type_inv }) ∙ c.from_absolute.ensures)
-    ∙ sym (value-reading (goal.at.returns-then-absolute_fits c).After-absolute_fits c.if-absolute_fits.true)
+pub returns-then-not-absolute_fits : goal.returns-then-not-absolute_fits
+returns-then-not-absolute_fits c = sym (value-reading (goal.at.returns-then-not-absolute_fits c).After-absolute_fits c.if-not-absolute_fits.true)
 
-pub returns-else-absolute_fits : goal.returns-else-absolute_fits
-returns-else-absolute_fits c = sym (value-reading (goal.at.returns-else-absolute_fits c).After-absolute_fits c.if-absolute_fits.false)
-
-pub returns-in-Beyond : goal.returns-in-Beyond
-returns-in-Beyond c =
-    sym (reading-beyond _ _ _ (integral (goal.at.returns-in-Beyond c).Else-not-is_integer) (number (goal.at.returns-in-Beyond c).After-take_apart-parts) (sym c.sum_digits.ensures ∙ c.in-Beyond.is))
-
-pub slice_bounds-sum_digits-count : goal.slice_bounds-sum_digits-count
-slice_bounds-sum_digits-count c = starts c
-
-pub slice_bounds-sum_digits-start : goal.slice_bounds-sum_digits-start
-slice_bounds-sum_digits-start c = starts c
+pub returns : goal.returns
+returns c =
+    ap Ok (back (record { sfits = c.from_absolute.type_inv }) ∙ c.from_absolute.ensures)
+    ∙ sym (value-reading (goal.at.returns c).After-absolute_fits c.if-not-absolute_fits.false)
