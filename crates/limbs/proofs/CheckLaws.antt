@@ -8,14 +8,16 @@ use lib.IntN.{ℤ, pos, nat_abs}
 use lib.Signed.{le_z}
 use mir.Syntax.{w64}
 use mir.Val.{SFits, to_z, of_z}
+use Rattle.std.specs.Prelude.{Result, Ok, Err}
 use Rattle.words.proofs.WordLaws.{back, natural-pos}
-use Rattle.outcomes.specs.Outcome.{Outcome, done, refuse}
+use Rattle.outcomes.specs.Outcome.{Outcome, done, refuse, map_done}
+use Rattle.outcomes.specs.Refusal.{outcome_of, code_of}
+use Rattle.outcomes.specs.declared.refusal.Refusal.{Refusal}
 use Rattle.outcomes.proofs.OutcomeLaws.{stage-passed, stages, stages-refused, stages-value, stages-passed}
-use Rattle.limbstages.specs.declared.check.Natural.{Natural}
-use Rattle.limbstages.specs.declared.check.Field.{Field}
-use Rattle.limbstages.specs.declared.check.Rotation.{Rotation}
-use Rattle.limbstages.specs.declared.check.NewBit.{NewBit}
-use Rattle.limbstages.specs.Inner.{natural_of, field_of, rotation_of, new_bit_of}
+use Rattle.limbstages.specs.declared.numbers.Field.{Field}
+use Rattle.limbstages.specs.declared.numbers.Rotation.{Rotation}
+use Rattle.limbstages.specs.declared.numbers.NewBit.{NewBit}
+use Rattle.limbstages.specs.Inner.{field_of, rotation_of, new_bit_of}
 use Rattle.limbstages.specs.Stages.{is_operand, operand, natural, is_field, field, is_new_bit, new_bit}
 use Rattle.limbstages.proofs.StageLaws.{operand-legal, field-numbers, new-bit-numbers}
 
@@ -26,16 +28,16 @@ W z = to_z w64 (of_z w64 z)
 abbrev natural-stages : List ℕ → ℤ → List (Bool × ℕ)
 natural-stages x n = (is_operand x, 7) ∷ (le_z (pos 0) n, 5) ∷ []
 
-module _ (x : List ℕ) {n : ℤ} (f : SFits w64 n) {r : Natural} (answered : natural_of r ≡ operand x (natural (W n) (done (nat_abs (W n))))) where
-  pub natural-refused : {k : ℕ} (o : Outcome ℤ) → r ≡ Natural.Refused k → operand x (natural n o) ≡ refuse k
-  unfolding natural_of operand natural stages
-  natural-refused o e = stages-refused (natural-stages x n) (nat_abs n) o (sym (rw (back f) at answered) ∙ ap natural_of e)
+module _ (x : List ℕ) {n : ℤ} (f : SFits w64 n) {r : Result ℕ Refusal} (answered : outcome_of r ≡ operand x (natural (W n) (done (nat_abs (W n))))) where
+  pub natural-refused : {k : Refusal} (o : Outcome ℤ) → r ≡ Err k → operand x (natural n o) ≡ refuse (code_of k)
+  unfolding outcome_of operand natural stages
+  natural-refused o e = stages-refused (natural-stages x n) (nat_abs n) o (sym (rw (back f) at answered) ∙ ap outcome_of e)
 
   -- the operand is legal, the number is m, and nothing is refused
-  pub natural-legal : {m : ℕ} → r ≡ Natural.Legal m → (is_operand x ≡ true) × ((n ≡ pos m) × ((o : Outcome ℤ) → operand x (natural n o) ≡ o))
-  unfolding natural_of operand natural stages
+  pub natural-legal : {m : ℕ} → r ≡ Ok m → (is_operand x ≡ true) × ((n ≡ pos m) × ((o : Outcome ℤ) → operand x (natural n o) ≡ o))
+  unfolding outcome_of operand natural stages
   natural-legal {m} e =
-      let d = sym (rw (back f) at answered) ∙ ap natural_of e in
+      let d = sym (rw (back f) at answered) ∙ ap outcome_of e in
       let l = operand-legal x (natural n (done (nat_abs n))) d in
       let p = stage-passed (le_z (pos 0) n) 5 (done (nat_abs n)) l.1 in
       (l.0, (natural-pos n p.0 (sym (stages-value (natural-stages x n) d)), λ o. stages-passed (natural-stages x n) (nat_abs n) o d))
@@ -57,14 +59,14 @@ legal-numbers start end a b l f t =
 abbrev field-stages : List ℕ → List ℕ → ℤ → ℤ → List (Bool × ℕ)
 field-stages x y start end = (is_operand x, 7) ∷ (is_operand y, 7) ∷ (is_field start end, 5) ∷ []
 
-module _ (x y : List ℕ) {start end : ℤ} (f : SFits w64 start) (g : SFits w64 end) {r : Field}
+module _ (x y : List ℕ) {start end : ℤ} (f : SFits w64 start) (g : SFits w64 end) {r : Result Field Refusal}
     (answered : field_of r ≡ operand x (operand y (field (W start) (W end) (done (nat_abs (W start), nat_abs (W end)))))) where
-  pub field-refused : {k : ℕ} (o : Outcome ℤ) → r ≡ Field.Refused k → operand x (operand y (field start end o)) ≡ refuse k
-  unfolding field_of operand field stages
+  pub field-refused : {k : Refusal} (o : Outcome ℤ) → r ≡ Err k → operand x (operand y (field start end o)) ≡ refuse (code_of k)
+  unfolding field_of map_done outcome_of operand field stages
   field-refused o e = stages-refused (field-stages x y start end) (nat_abs start, nat_abs end) o (sym (rw (back f, back g) at answered) ∙ ap field_of e)
 
-  pub field-legal : {s e : ℕ} → r ≡ Field.Legal s e → LegalField x y start end s e × ((o : Outcome ℤ) → operand x (operand y (field start end o)) ≡ o)
-  unfolding field_of operand field stages
+  pub field-legal : {f : Field} → r ≡ Ok f → LegalField x y start end f.start f.end × ((o : Outcome ℤ) → operand x (operand y (field start end o)) ≡ o)
+  unfolding field_of map_done outcome_of operand field stages
   field-legal q =
       let numbers : ℕ × ℕ = (nat_abs start, nat_abs end) in
       let d = sym (rw (back f, back g) at answered) ∙ ap field_of q in
@@ -78,16 +80,16 @@ module _ (x y : List ℕ) {start end : ℤ} (f : SFits w64 start) (g : SFits w64
 abbrev rotation-stages : List ℕ → ℤ → ℤ → ℤ → List (Bool × ℕ)
 rotation-stages x start end count = (is_operand x, 7) ∷ (is_field start end, 5) ∷ (le_z (pos 0) count, 5) ∷ []
 
-module _ (x : List ℕ) {start end count : ℤ} (f : SFits w64 start) (g : SFits w64 end) (h : SFits w64 count) {r : Rotation}
+module _ (x : List ℕ) {start end count : ℤ} (f : SFits w64 start) (g : SFits w64 end) (h : SFits w64 count) {r : Result Rotation Refusal}
     (answered : rotation_of r ≡ operand x (field (W start) (W end) (natural (W count) (done (nat_abs (W start), (nat_abs (W end), nat_abs (W count))))))) where
-  pub rotation-refused : {k : ℕ} (o : Outcome ℤ) → r ≡ Rotation.Refused k → operand x (field start end (natural count o)) ≡ refuse k
-  unfolding rotation_of operand field natural stages
+  pub rotation-refused : {k : Refusal} (o : Outcome ℤ) → r ≡ Err k → operand x (field start end (natural count o)) ≡ refuse (code_of k)
+  unfolding rotation_of map_done outcome_of operand field natural stages
   rotation-refused o e =
       stages-refused (rotation-stages x start end count) (nat_abs start, (nat_abs end, nat_abs count)) o (sym (rw (back f, back g, back h) at answered) ∙ ap rotation_of e)
 
-  pub rotation-legal : {s e c : ℕ} → r ≡ Rotation.Legal s e c
-      → LegalField x x start end s e × ((count ≡ pos c) × ((o : Outcome ℤ) → operand x (field start end (natural count o)) ≡ o))
-  unfolding rotation_of operand field natural stages
+  pub rotation-legal : {n : Rotation} → r ≡ Ok n
+      → LegalField x x start end n.field.start n.field.end × ((count ≡ pos n.count) × ((o : Outcome ℤ) → operand x (field start end (natural count o)) ≡ o))
+  unfolding rotation_of map_done outcome_of operand field natural stages
   rotation-legal q =
       let numbers : ℕ × (ℕ × ℕ) = (nat_abs start, (nat_abs end, nat_abs count)) in
       let d = sym (rw (back f, back g, back h) at answered) ∙ ap rotation_of q in
@@ -111,22 +113,22 @@ pub record LegalBit (x : List ℕ) (position bit : ℤ) (k b : ℕ) : Type 0 whe
 abbrev new-bit-stages : List ℕ → ℤ → ℤ → List (Bool × ℕ)
 new-bit-stages x k bit = (is_operand x, 7) ∷ (is_new_bit k bit, 5) ∷ []
 
-module _ (x : List ℕ) {k bit : ℤ} (f : SFits w64 k) (g : SFits w64 bit) {r : NewBit}
+module _ (x : List ℕ) {k bit : ℤ} (f : SFits w64 k) (g : SFits w64 bit) {r : Result NewBit Refusal}
     (answered : new_bit_of r ≡ operand x (new_bit (W k) (W bit) (done (nat_abs (W k), nat_abs (W bit))))) where
-  pub new-bit-refused : {j : ℕ} (o : Outcome ℤ) → r ≡ NewBit.Refused j → operand x (new_bit k bit o) ≡ refuse j
-  unfolding new_bit_of operand new_bit stages
+  pub new-bit-refused : {j : Refusal} (o : Outcome ℤ) → r ≡ Err j → operand x (new_bit k bit o) ≡ refuse (code_of j)
+  unfolding new_bit_of map_done outcome_of operand new_bit stages
   new-bit-refused o e = stages-refused (new-bit-stages x k bit) (nat_abs k, nat_abs bit) o (sym (rw (back f, back g) at answered) ∙ ap new_bit_of e)
 
-  pub new-bit-legal : {p b : ℕ} → r ≡ NewBit.Legal p b → LegalBit x k bit p b × ((o : Outcome ℤ) → operand x (new_bit k bit o) ≡ o)
-  unfolding new_bit_of operand new_bit stages
-  new-bit-legal {p} {b} e =
+  pub new-bit-legal : {n : NewBit} → r ≡ Ok n → LegalBit x k bit n.position n.bit × ((o : Outcome ℤ) → operand x (new_bit k bit o) ≡ o)
+  unfolding new_bit_of map_done outcome_of operand new_bit stages
+  new-bit-legal {n = m} e =
       let numbers : ℕ × ℕ = (nat_abs k, nat_abs bit) in
       let d = sym (rw (back f, back g) at answered) ∙ ap new_bit_of e in
       let a = operand-legal x (new_bit k bit (done numbers)) d in
       let n = new-bit-numbers k bit (stage-passed (is_new_bit k bit) 5 (done numbers) a.1).0 in
       let v = stages-value (new-bit-stages x k bit) d in
-      let at : nat_abs k ≡ p = ap (λ (q : ℕ × ℕ). q.0) v in
-      let new : nat_abs bit ≡ b = ap (λ (q : ℕ × ℕ). q.1) v in (
+      let at : nat_abs k ≡ m.position = ap (λ (q : ℕ × ℕ). q.0) v in
+      let new : nat_abs bit ≡ m.bit = ap (λ (q : ℕ × ℕ). q.1) v in (
         record { first = a.0; last = omega (arith, n.0.1); small = omega (arith, n.1.1); at = at; new = natural-pos bit n.1.0 (sym new) },
         λ o. stages-passed (new-bit-stages x k bit) numbers o d,
       )

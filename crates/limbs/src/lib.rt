@@ -9,128 +9,123 @@
 ghost use Rattle.std.specs.Prelude.{◌≡◌, true, ◌&&◌, ◌||◌};
 ghost use Rattle.std.specs.Bool.{xor};
 ghost use Rattle.outcomes.specs.Outcome as outcome;
-ghost use Rattle.limbstages.specs.Buffer.{Writes};
-ghost use Rattle.outcomes.specs.Number.{number};
+ghost use Rattle.limbstages.specs.Buffer.{Writes, written_of};
+ghost use Rattle.outcomes.specs.Refusal.{outcome_of};
 ghost use Rattle.bits.specs.Logical.{bitwise};
 ghost use Rattle.limbwords.specs.Value.{value};
 ghost use Rattle.limbwords.specs.Results.{logic_of};
-ghost use Rattle.limbstages.specs.Stages.{is_operand};
 ghost use Rattle.limbs.specs.Operations.{not_outcome, bitwise_outcome, if_outcome, copy_bit_outcome, bit_field_outcome, copy_bit_field_outcome, shift_outcome, shift_left_outcome, shift_right_outcome, rotate_outcome, reverse_outcome, bit_count_outcome, length_outcome, first_bit_set_outcome, bit_set_outcome, word_outcome, trim_outcome};
 
 use limbcount::count::{bit_count, bit_length, first_bit_set};
 use limbmeasure::shortest_length;
-use limbsegments::index::max;
-use limbstages::Written;
-use limbstages::answer::refuse;
 use limbstages::check::{
-    Field, Natural, NewBit, Rotation, are_operands, check_field, check_natural, check_new_bit,
-    check_rotation, has_limbs, is_operand,
+    check_field, check_natural, check_new_bit, check_operand, check_operands, check_rotation,
+    has_limbs,
 };
 use limbstages::field::run_field;
+use limbstages::numbers::{Field, NewBit, Rotation};
 use limbstages::run::{run, store, store_limbs};
 use limbstages::shift::{shift_left, shift_right};
 use limbwords::limb::window;
 use limbwords::result::{Logic, Operation};
 use limbwords::signed::{word, word_bits};
-use outcomes::number::{Number, done, refuse_number};
+use outcomes::refusal::Refusal;
 use words::rotation::reduced;
-use words::sign::absolute;
 
-// and, ior and xor of two legal operands.
-fn combine(by: Logic, x: &[u32], y: &[u32], out: &mut [u32], first: u64) -> Written
-    requires { (is_operand x.now && is_operand y.now) ≡ true }
-    ensures { Writes (outcome.done (bitwise (logic_of by) (value x.now) (value y.now))) out.old first result out.new }
+// and, ior and xor of two
+fn combine(by: Logic, x: &[u32], y: &[u32], out: &mut [u32], first: u64) -> Result<usize, Refusal>
+    ensures { Writes (bitwise_outcome (logic_of by) x.now y.now) out.old first (written_of result) out.new }
 {
-    let enough = max(x.len(), y.len());
+    check_operands(x, y)?;
+    let enough = x.len().max(y.len());
     run(Operation::Logical(by), x, y, x, enough, out, first)
 }
 
 // bitwise-not: the complement has as many limbs as its operand
-pub fn bitwise_not(x: &[u32], out: &mut [u32], first: u64) -> Written
-    ensures { Writes (not_outcome x.now) out.old first result out.new }
+pub fn bitwise_not(x: &[u32], out: &mut [u32], first: u64) -> Result<usize, Refusal>
+    ensures { Writes (not_outcome x.now) out.old first (written_of result) out.new }
 {
-    if !is_operand(x) {
-        return refuse(7);
-    }
+    check_operand(x)?;
     store(Operation::Logical(Logic::Not), x, x, x, x.len(), out, first)
 }
 
 // bitwise-and of two
-pub fn bitwise_and(x: &[u32], y: &[u32], out: &mut [u32], first: u64) -> Written
-    ensures { Writes (bitwise_outcome ◌&&◌ x.now y.now) out.old first result out.new }
+#[tactic(auto, unfolding(limbwords::specs::Results::logic_of))]
+pub fn bitwise_and(x: &[u32], y: &[u32], out: &mut [u32], first: u64) -> Result<usize, Refusal>
+    ensures { Writes (bitwise_outcome ◌&&◌ x.now y.now) out.old first (written_of result) out.new }
 {
-    if !are_operands(x, y) {
-        return refuse(7);
-    }
     combine(Logic::And, x, y, out, first)
 }
 
 // bitwise-ior of two
-pub fn bitwise_ior(x: &[u32], y: &[u32], out: &mut [u32], first: u64) -> Written
-    ensures { Writes (bitwise_outcome ◌||◌ x.now y.now) out.old first result out.new }
+#[tactic(auto, unfolding(limbwords::specs::Results::logic_of))]
+pub fn bitwise_ior(x: &[u32], y: &[u32], out: &mut [u32], first: u64) -> Result<usize, Refusal>
+    ensures { Writes (bitwise_outcome ◌||◌ x.now y.now) out.old first (written_of result) out.new }
 {
-    if !are_operands(x, y) {
-        return refuse(7);
-    }
     combine(Logic::Ior, x, y, out, first)
 }
 
 // bitwise-xor of two
-pub fn bitwise_xor(x: &[u32], y: &[u32], out: &mut [u32], first: u64) -> Written
-    ensures { Writes (bitwise_outcome xor x.now y.now) out.old first result out.new }
+#[tactic(auto, unfolding(limbwords::specs::Results::logic_of))]
+pub fn bitwise_xor(x: &[u32], y: &[u32], out: &mut [u32], first: u64) -> Result<usize, Refusal>
+    ensures { Writes (bitwise_outcome xor x.now y.now) out.old first (written_of result) out.new }
 {
-    if !are_operands(x, y) {
-        return refuse(7);
-    }
     combine(Logic::Xor, x, y, out, first)
 }
 
 // bitwise-if
-pub fn bitwise_if(x: &[u32], y: &[u32], z: &[u32], out: &mut [u32], first: u64) -> Written
-    ensures { Writes (if_outcome x.now y.now z.now) out.old first result out.new }
+pub fn bitwise_if(
+    x: &[u32],
+    y: &[u32],
+    z: &[u32],
+    out: &mut [u32],
+    first: u64,
+) -> Result<usize, Refusal>
+    ensures { Writes (if_outcome x.now y.now z.now) out.old first (written_of result) out.new }
 {
-    if !are_operands(x, y) {
-        return refuse(7);
-    }
-    if !is_operand(z) {
-        return refuse(7);
-    }
-    let enough = max(x.len(), max(y.len(), z.len()));
+    check_operands(x, y)?;
+    check_operand(z)?;
+    let enough = x.len().max(y.len()).max(z.len());
     run(Operation::If, x, y, z, enough, out, first)
 }
 
 // bitwise-copy-bit: the bit at a position becomes 0 or 1
-pub fn bitwise_copy_bit(x: &[u32], position: i64, bit: i64, out: &mut [u32], first: u64) -> Written
-    ensures { Writes (copy_bit_outcome x.now position bit) out.old first result out.new }
+pub fn bitwise_copy_bit(
+    x: &[u32],
+    position: i64,
+    bit: i64,
+    out: &mut [u32],
+    first: u64,
+) -> Result<usize, Refusal>
+    ensures { Writes (copy_bit_outcome x.now position bit) out.old first (written_of result) out.new }
 {
-    match check_new_bit(x, position, bit) {
-        NewBit::Legal { position, bit } => {
-            let start = position;
-            let end = position + 1;
-            run_field(
-                Operation::CopyField { start, end },
-                x,
-                &[bit],
-                end,
-                out,
-                first,
-            )
-        }
-        NewBit::Refused(k) => refuse(k),
-    }
+    let NewBit { position, bit } = check_new_bit(x, position, bit)?;
+    let start = position;
+    let end = position + 1;
+    let field = Field { start, end };
+    run_field(
+        Operation::CopyField { start, end },
+        x,
+        &[bit],
+        field,
+        out,
+        first,
+    )
 }
 
 // bitwise-bit-field: the field as a number
-pub fn bitwise_bit_field(x: &[u32], start: i64, end: i64, out: &mut [u32], first: u64) -> Written
-    ensures { Writes (bit_field_outcome x.now start end) out.old first result out.new }
+pub fn bitwise_bit_field(
+    x: &[u32],
+    start: i64,
+    end: i64,
+    out: &mut [u32],
+    first: u64,
+) -> Result<usize, Refusal>
+    ensures { Writes (bit_field_outcome x.now start end) out.old first (written_of result) out.new }
 {
-    match check_field(x, x, start, end) {
-        Field::Legal { start, end } => {
-            let enough = ((end - start) / 32) as usize + 1;
-            run(Operation::Field { start, end }, x, x, x, enough, out, first)
-        }
-        Field::Refused(k) => refuse(k),
-    }
+    let Field { start, end } = check_field(x, x, start, end)?;
+    let enough = ((end - start) / 32) as usize + 1;
+    run(Operation::Field { start, end }, x, x, x, enough, out, first)
 }
 
 // bitwise-copy-bit-field: the field gets the low bits of y
@@ -141,25 +136,25 @@ pub fn bitwise_copy_bit_field(
     y: &[u32],
     out: &mut [u32],
     first: u64,
-) -> Written
-    ensures { Writes (copy_bit_field_outcome x.now start end y.now) out.old first result out.new }
+) -> Result<usize, Refusal>
+    ensures { Writes (copy_bit_field_outcome x.now start end y.now) out.old first (written_of result) out.new }
 {
-    match check_field(x, y, start, end) {
-        Field::Legal { start, end } => {
-            run_field(Operation::CopyField { start, end }, x, y, end, out, first)
-        }
-        Field::Refused(k) => refuse(k),
-    }
+    let field = check_field(x, y, start, end)?;
+    let Field { start, end } = field;
+    run_field(Operation::CopyField { start, end }, x, y, field, out, first)
 }
 
 // bitwise-arithmetic-shift: to the left by a positive distance, to the right by a negative one
-pub fn bitwise_shift(x: &[u32], distance: i64, out: &mut [u32], first: u64) -> Written
-    ensures { Writes (shift_outcome x.now distance) out.old first result out.new }
+pub fn bitwise_shift(
+    x: &[u32],
+    distance: i64,
+    out: &mut [u32],
+    first: u64,
+) -> Result<usize, Refusal>
+    ensures { Writes (shift_outcome x.now distance) out.old first (written_of result) out.new }
 {
-    if !is_operand(x) {
-        return refuse(7);
-    }
-    let by = absolute(distance);
+    check_operand(x)?;
+    let by = distance.unsigned_abs();
     if distance < 0 {
         shift_right(x, by, out, first)
     } else {
@@ -168,23 +163,29 @@ pub fn bitwise_shift(x: &[u32], distance: i64, out: &mut [u32], first: u64) -> W
 }
 
 // bitwise-arithmetic-shift-left
-pub fn bitwise_shift_left(x: &[u32], distance: i64, out: &mut [u32], first: u64) -> Written
-    ensures { Writes (shift_left_outcome x.now distance) out.old first result out.new }
+pub fn bitwise_shift_left(
+    x: &[u32],
+    distance: i64,
+    out: &mut [u32],
+    first: u64,
+) -> Result<usize, Refusal>
+    ensures { Writes (shift_left_outcome x.now distance) out.old first (written_of result) out.new }
 {
-    match check_natural(x, distance) {
-        Natural::Legal(by) => shift_left(x, by, out, first),
-        Natural::Refused(k) => refuse(k),
-    }
+    let by = check_natural(x, distance)?;
+    shift_left(x, by, out, first)
 }
 
 // bitwise-arithmetic-shift-right
-pub fn bitwise_shift_right(x: &[u32], distance: i64, out: &mut [u32], first: u64) -> Written
-    ensures { Writes (shift_right_outcome x.now distance) out.old first result out.new }
+pub fn bitwise_shift_right(
+    x: &[u32],
+    distance: i64,
+    out: &mut [u32],
+    first: u64,
+) -> Result<usize, Refusal>
+    ensures { Writes (shift_right_outcome x.now distance) out.old first (written_of result) out.new }
 {
-    match check_natural(x, distance) {
-        Natural::Legal(by) => shift_right(x, by, out, first),
-        Natural::Refused(k) => refuse(k),
-    }
+    let by = check_natural(x, distance)?;
+    shift_right(x, by, out, first)
 }
 
 // bitwise-rotate-bit-field: towards the high end
@@ -195,96 +196,93 @@ pub fn bitwise_rotate(
     count: i64,
     out: &mut [u32],
     first: u64,
-) -> Written
-    ensures { Writes (rotate_outcome x.now start end count) out.old first result out.new }
+) -> Result<usize, Refusal>
+    ensures { Writes (rotate_outcome x.now start end count) out.old first (written_of result) out.new }
 {
-    match check_rotation(x, start, end, count) {
-        Rotation::Legal { start, end, count } => {
-            let by = reduced(count, end - start);
-            run_field(Operation::Rotate { start, end, by }, x, x, end, out, first)
-        }
-        Rotation::Refused(k) => refuse(k),
-    }
+    let Rotation { field, count } = check_rotation(x, start, end, count)?;
+    let Field { start, end } = field;
+    let by = reduced(count, end - start);
+    run_field(
+        Operation::Rotate { start, end, by },
+        x,
+        x,
+        field,
+        out,
+        first,
+    )
 }
 
 // bitwise-reverse-bit-field
-pub fn bitwise_reverse(x: &[u32], start: i64, end: i64, out: &mut [u32], first: u64) -> Written
-    ensures { Writes (reverse_outcome x.now start end) out.old first result out.new }
+pub fn bitwise_reverse(
+    x: &[u32],
+    start: i64,
+    end: i64,
+    out: &mut [u32],
+    first: u64,
+) -> Result<usize, Refusal>
+    ensures { Writes (reverse_outcome x.now start end) out.old first (written_of result) out.new }
 {
-    match check_field(x, x, start, end) {
-        Field::Legal { start, end } => {
-            run_field(Operation::Reverse { start, end }, x, x, end, out, first)
-        }
-        Field::Refused(k) => refuse(k),
-    }
+    let field = check_field(x, x, start, end)?;
+    let Field { start, end } = field;
+    run_field(Operation::Reverse { start, end }, x, x, field, out, first)
 }
 
 // bitwise-bit-count
-pub fn bitwise_bit_count(x: &[u32]) -> Number
-    ensures { result ≡ number (bit_count_outcome x.now) }
+pub fn bitwise_bit_count(x: &[u32]) -> Result<i64, Refusal>
+    ensures { outcome_of result ≡ bit_count_outcome x.now }
 {
-    if !is_operand(x) {
-        return refuse_number(7);
-    }
-    done(bit_count(x))
+    check_operand(x)?;
+    Ok(bit_count(x))
 }
 
 // bitwise-length
-pub fn bitwise_length(x: &[u32]) -> Number
-    ensures { result ≡ number (length_outcome x.now) }
+pub fn bitwise_length(x: &[u32]) -> Result<i64, Refusal>
+    ensures { outcome_of result ≡ length_outcome x.now }
 {
-    if !is_operand(x) {
-        return refuse_number(7);
-    }
-    done(bit_length(x) as i64)
+    check_operand(x)?;
+    Ok(bit_length(x) as i64)
 }
 
 // bitwise-first-bit-set
-pub fn bitwise_first_bit_set(x: &[u32]) -> Number
-    ensures { result ≡ number (first_bit_set_outcome x.now) }
+pub fn bitwise_first_bit_set(x: &[u32]) -> Result<i64, Refusal>
+    ensures { outcome_of result ≡ first_bit_set_outcome x.now }
 {
-    if !is_operand(x) {
-        return refuse_number(7);
-    }
-    done(first_bit_set(x))
+    check_operand(x)?;
+    Ok(first_bit_set(x))
 }
 
 // bitwise-bit-set?
-pub fn bitwise_bit_set(x: &[u32], position: i64) -> Number
-    ensures { result ≡ number (bit_set_outcome x.now position) }
+pub fn bitwise_bit_set(x: &[u32], position: i64) -> Result<i64, Refusal>
+    ensures { outcome_of result ≡ bit_set_outcome x.now position }
 {
-    match check_natural(x, position) {
-        Natural::Legal(at) => done((window(x, at) % 2) as i64),
-        Natural::Refused(k) => refuse_number(k),
-    }
+    let at = check_natural(x, position)?;
+    Ok(i64::from(window(x, at) % 2))
 }
 
 // The shortest form of limbs that may be padded, written where any other result would be.
-pub fn bitwise_trim(x: &[u32], out: &mut [u32], first: u64) -> Written
-    ensures { Writes (trim_outcome x.now) out.old first result out.new }
+pub fn bitwise_trim(x: &[u32], out: &mut [u32], first: u64) -> Result<usize, Refusal>
+    ensures { Writes (trim_outcome x.now) out.old first (written_of result) out.new }
 {
     if !has_limbs(x) {
-        return refuse(7);
+        return Err(Refusal::Operand);
     }
     store_limbs(x, shortest_length(x), out, first)
 }
 
-// An integer as one signed 64-bit word; refusal 6 where it does not fit.
-pub fn to_word(x: &[u32]) -> Number
-    ensures { result ≡ number (word_outcome x.now) }
+// An integer as one signed 64-bit word, where it fits.
+pub fn to_word(x: &[u32]) -> Result<i64, Refusal>
+    ensures { outcome_of result ≡ word_outcome x.now }
 {
-    if !is_operand(x) {
-        return refuse_number(7);
-    }
+    check_operand(x)?;
     if 64 <= bit_length(x) {
-        return refuse_number(6);
+        return Err(Refusal::Overflow);
     }
-    done(word(x))
+    Ok(word(x))
 }
 
 // One signed 64-bit word as limbs.
-pub fn from_word(v: i64, out: &mut [u32], first: u64) -> Written
-    ensures { Writes (outcome.done v) out.old first result out.new }
+pub fn from_word(v: i64, out: &mut [u32], first: u64) -> Result<usize, Refusal>
+    ensures { Writes (outcome.done v) out.old first (written_of result) out.new }
 {
     let limbs = [word_bits(v, 0), word_bits(v, 32)];
     store_limbs(&limbs, shortest_length(&limbs), out, first)

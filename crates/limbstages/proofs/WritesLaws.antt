@@ -9,13 +9,16 @@ use lib.IntN.{ℤ}
 use lib.ListN.{length, take, drop, get_or}
 use borrow.Author.Tests.{le-leb, leb-true, leb-false, not-true, not-false}
 use borrow.Rule.Slice.PartMut.{put_mid}
+use Rattle.std.specs.Prelude.{Result, Ok, Err, IsErrAnd}
 use Rattle.bits.specs.Testbit.{fits}
 use Rattle.bits.specs.Shift.{shift_right}
 use Rattle.bits.specs.Division.{mod_ℕ}
 use Rattle.bits.proofs.LengthLaws.{fits-length}
 use Rattle.bits.proofs.FitsLaws.{holds}
 use Rattle.bits.proofs.ShiftLaws.{shift_right-zero, shift_right-compose}
+use Rattle.outcomes.specs.declared.refusal.Refusal.{Refusal}
 use Rattle.outcomes.specs.Outcome.{Outcome, done, refuse, map_done, refusal_of}
+use Rattle.outcomes.specs.Refusal.{code_of}
 use Rattle.outcomes.specs.Buffer.{fitted, afterwards, count_of}
 use Rattle.outcomes.specs.Puts.{Puts}
 use Rattle.outcomes.proofs.BufferLaws.{fitted-enough, fitted_short, laid-part, read_back, count_of-capacity, afterwards-length}
@@ -23,9 +26,9 @@ use Rattle.limbwords.specs.Value.{limbs_of, limb_count, shortest}
 use Rattle.limbwords.specs.Results.{bits_from, limb_at}
 use Rattle.limbwords.proofs.ValueLaws.{length-shortest, limb_count-positive, is_shortest-shortest}
 use Rattle.limbstages.specs.declared.Written.{Written}
-use Rattle.limbstages.specs.Buffer.{stored, written, Writes, copied}
-use Rattle.limbstages.specs.Inner.{refusal}
+use Rattle.limbstages.specs.Buffer.{stored, written, written_of, Writes, copied}
 use Rattle.limbstages.specs.Stages.{most_limbs, has_limbs, is_operand}
+use Rattle.limbstages.proofs.StageLaws.{exited}
 
 pub writes_as : {o p : Outcome ℤ} {out out' : List ℕ} {first : ℕ} {r : Written} → o ≡ p → Writes p out first r out' → Writes o out first r out'
 writes_as {out} {out'} {first} {r} e w = subst (λ (q : Outcome ℤ). Writes q out first r out') (sym e) w
@@ -39,9 +42,15 @@ from-stored {o} {out} {out'} {first} {r} p e a b = record {
   buffer = b ∙ sym (ap (λ (p : Outcome (List ℕ)). afterwards p out first) e);
 }
 
-pub writes-refused : {o : Outcome ℤ} {k : ℕ} (out : List ℕ) (first : ℕ) {r : Written} → o ≡ refuse k → r ≡ refusal k → Writes o out first r out
-unfolding stored map_done fitted refusal refusal_of count_of afterwards
-writes-refused {o} {k} out first e q = from-stored (refuse k) (ap (λ (o : Outcome ℤ). stored o out first) e) q refl
+pub writes-refused : {o : Outcome ℤ} {k : Refusal} (out : List ℕ) (first : ℕ) {r : Result ℕ Refusal} → o ≡ refuse (code_of k) → r ≡ Err k
+    → Writes o out first (written_of r) out
+unfolding stored map_done fitted written_of refusal_of count_of afterwards
+writes-refused {o} {k} out first e q = from-stored (refuse (code_of k)) (ap (λ (o : Outcome ℤ). stored o out first) e) (ap written_of q) refl
+
+-- the same where a `?` hands the refusal on
+pub writes-exited : {o : Outcome ℤ} {out : List ℕ} {first : ℕ} (k : Refusal) (r : Result ℕ Refusal) → o ≡ refuse (code_of k) → IsErrAnd r (λ y. y ≡ k)
+    → Writes o out first (written_of r) out
+writes-exited {out} {first} k r e h = writes-refused out first e (exited r h)
 
 -- ---- an integer of n limbs, where the code has tested the capacity
 
@@ -64,16 +73,16 @@ pub first-within : (z : ℤ) {first n m : ℕ} → n ≡ limb_count z → n ≤ 
 first-within z counted l = omega (arith, limb_count-positive z)
 
 module _ (z : ℤ) (out : List ℕ) (first : ℕ) {n : ℕ} (counted : n ≡ limb_count z) where
-  pub no-capacity : {b : Bool} {r : Written} → b ≡ leb n (length out - first) → not b ≡ true → r ≡ refusal 8 → Writes (done z) out first r out
-  unfolding stored map_done refusal refusal_of count_of afterwards
-  no-capacity {b} e h q =
+  pub no-capacity : {b : Bool} → b ≡ leb n (length out - first) → not b ≡ true → Writes (done z) out first (written_of (Err Refusal.Capacity)) out
+  unfolding stored map_done written_of code_of refusal_of count_of afterwards
+  no-capacity {b} e h =
       let l = leb-false n (length out - first) (sym e ∙ not-true b h) in
-      from-stored (refuse 8) (fitted_short (shortest z) out first (omega (arith, length-shortest z))) q refl
+      from-stored (refuse 8) (fitted_short (shortest z) out first (omega (arith, length-shortest z))) refl refl
 
   -- the borrowed part has come back with the limbs in it
   pub limbs-stored : n ≤ length out - first → (part : List ℕ) → Puts 0 (limb_at z) (take (length out - first) (drop first out)) part 0 n
-      → Writes (done z) out first (record { refusal = 0; length = n }) (put_mid first (length out - first) out part)
-  unfolding stored map_done refusal_of count_of afterwards shortest
+      → Writes (done z) out first (written_of (Ok n)) (put_mid first (length out - first) out part)
+  unfolding stored map_done written_of refusal_of count_of afterwards shortest
   limbs-stored room part w =
       let long = length-shortest z ∙ sym counted in
       from-stored (done (shortest z)) (fitted-enough (shortest z) out first (omega arith))
@@ -98,6 +107,12 @@ written-within {o} {out} {out'} {first} w =
     let l = count_of-capacity (map_done shortest o) out first in
     let k = ap length w.buffer ∙ afterwards-length (map_done shortest o) out first in
     (omega arith, λ h. omega arith)
+
+-- the same of a count
+pub count-within : {o : Outcome ℤ} {out out' : List ℕ} {first n : ℕ} → Writes o out first (written_of (Ok n)) out'
+    → (n ≤ length out') × (0 < n → first + n ≤ length out')
+unfolding written_of
+count-within w = written-within w
 
 -- the shortest limbs of an integer that fits 1,024 limbs are legal operands
 pub shortest-operand : (z : ℤ) → fits 32768 z ≡ true → is_operand (shortest z) ≡ true

@@ -4,35 +4,35 @@ ghost use Rattle.bits.specs.Testbit.{bit_length};
 ghost use Rattle.outcomes.specs.Outcome as outcome;
 ghost use Rattle.limbwords.specs.Value.{value};
 ghost use Rattle.limbwords.specs.Results.{meaning, Proper};
-ghost use Rattle.limbstages.specs.Buffer.{Writes};
+ghost use Rattle.limbstages.specs.Buffer.{Writes, written_of};
 ghost use Rattle.limbstages.specs.Stages.{is_operand};
 
-use super::Written;
+use super::numbers::Field;
 use super::run::run;
 use limbsegments::index::max;
 use limbwords::result::Operation;
+use outcomes::refusal::Refusal;
 
-// How many limbs are enough for an operand with a field up to `end`.
-fn enough_for(x: &[u32], end: u64) -> usize
-    requires { end ≤ 32767 }
-    ensures { ((length x.now ≤ result) × (end < 32 * result)) × (result ≤ length x.now + 1024) }
+// How many limbs are enough for an operand with a field.
+fn enough_for(x: &[u32], field: Field) -> usize
+    ensures { ((length x.now ≤ result) × (field.end < 32 * result)) × (result ≤ length x.now + 1024) }
 {
-    max(x.len(), (end / 32) as usize + 1)
+    max(x.len(), (field.end / 32) as usize + 1)
 }
 
-// An operation that changes no bit of x from `end` on.
+// An operation that changes no bit of x from the end of a field on.
 pub fn run_field(
     operation: Operation,
     x: &[u32],
     y: &[u32],
-    end: u64,
+    field: Field,
     out: &mut [u32],
     first: u64,
-) -> Written
+) -> Result<usize, Refusal>
     requires x_value { (is_operand x.now ≡ true) × (is_operand y.now ≡ true) }
-    requires proper { Proper operation × (end ≤ 32767) }
-    requires by_index { (k : ℕ) → bit_length (value x.now) ≤ k → end ≤ k → bit_length (meaning operation (value x.now) (value y.now) (value x.now)) ≤ k }
-    ensures { Writes (outcome.done (meaning operation (value x.now) (value y.now) (value x.now))) out.old first result out.new }
+    requires proper { Proper operation }
+    requires by_index { (k : ℕ) → bit_length (value x.now) ≤ k → field.end ≤ k → bit_length (meaning operation (value x.now) (value y.now) (value x.now)) ≤ k }
+    ensures { Writes (outcome.done (meaning operation (value x.now) (value y.now) (value x.now))) out.old first (written_of result) out.new }
 {
-    run(operation, x, y, x, enough_for(x, end), out, first)
+    run(operation, x, y, x, enough_for(x, field), out, first)
 }

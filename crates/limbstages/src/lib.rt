@@ -4,10 +4,11 @@
 pub mod answer;
 pub mod check;
 pub mod field;
+pub mod numbers;
 pub mod run;
 pub mod shift;
 
-// What a call answers that writes an integer: a refusal number, 0 for done, and how many limbs it has written.
+// What a C caller is told of a call that writes an integer: a refusal number, 0 for done, and how many limbs it has written.
 #[repr(C)]
 #[derive(Drop)]
 pub struct Written {

@@ -3,15 +3,14 @@ ghost use Rattle.std.specs.Prelude.{◌≡◌, true, cond, ◌+◌, ◌/◌, ◌
 ghost use Rattle.bits.specs.Shift as shifts;
 ghost use Rattle.outcomes.specs.Outcome as outcome;
 ghost use Rattle.limbwords.specs.Value.{value};
-ghost use Rattle.limbstages.specs.Buffer.{Writes};
+ghost use Rattle.limbstages.specs.Buffer.{Writes, written_of};
 ghost use Rattle.limbstages.specs.Stages.{is_operand, sized};
 
-use super::Written;
-use super::answer::refuse;
 use super::check::MOST_LIMBS;
 use super::run::{run, store};
 use limbmeasure::measure;
 use limbwords::result::Operation;
+use outcomes::refusal::Refusal;
 
 const MOST_BITS: u64 = 32768;
 
@@ -33,9 +32,9 @@ fn enough_right(x: &[u32], by: u64) -> usize
 }
 
 // A distance beyond every bit of an operand leaves its sign.
-pub fn shift_right(x: &[u32], by: u64, out: &mut [u32], first: u64) -> Written
+pub fn shift_right(x: &[u32], by: u64, out: &mut [u32], first: u64) -> Result<usize, Refusal>
     requires { is_operand x.now ≡ true }
-    ensures { Writes (outcome.done (shifts.shift_right (value x.now) by)) out.old first result out.new }
+    ensures { Writes (outcome.done (shifts.shift_right (value x.now) by)) out.old first (written_of result) out.new }
 {
     let distance = capped(by);
     let operation = Operation::ShiftRight { by: distance };
@@ -44,16 +43,16 @@ pub fn shift_right(x: &[u32], by: u64, out: &mut [u32], first: u64) -> Written
 }
 
 // A distance beyond the largest length moves everything but 0 past it.
-pub fn shift_left(x: &[u32], by: u64, out: &mut [u32], first: u64) -> Written
+pub fn shift_left(x: &[u32], by: u64, out: &mut [u32], first: u64) -> Result<usize, Refusal>
     requires { is_operand x.now ≡ true }
-    ensures { Writes (sized (shifts.shift_left (value x.now) by)) out.old first result out.new }
+    ensures { Writes (sized (shifts.shift_left (value x.now) by)) out.old first (written_of result) out.new }
 {
     let distance = capped(by);
     let operation = Operation::ShiftLeft { by: distance };
     let enough = x.len() + (distance / 32) as usize + 1;
     let n = measure(operation, x, x, x, enough);
     if MOST_LIMBS < n {
-        return refuse(6);
+        return Err(Refusal::Overflow);
     }
     store(operation, x, x, x, n, out, first)
 }

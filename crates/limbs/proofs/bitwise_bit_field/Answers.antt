@@ -10,32 +10,32 @@ use Rattle.limbwords.specs.Results.{meaning, Proper}
 use Rattle.limbs.specs.Operations.{bit_field_outcome}
 use Rattle.limbstages.proofs.StageLaws.{operand-twice, operand-lengths}
 use Rattle.limbs.proofs.CheckLaws.{LegalField, field-refused, field-legal}
-use Rattle.limbstages.proofs.WritesLaws.{writes_as, writes-refused}
+use Rattle.limbstages.proofs.WritesLaws.{writes_as, writes-exited}
 use Rattle.limbs.proofs.bitwise_bit_field.Goals as goal
-use Rattle.limbs.proofs.bitwise_bit_field.Goals.{In-Legal}
+use Rattle.limbs.proofs.bitwise_bit_field.Goals.{In_ok-start}
 
-legal-field : (c : In-Legal) → LegalField c.args.x.now c.args.x.now c.args.start c.args.end c.in-Legal.start c.in-Legal.end
+legal-field : (c : In_ok-start) → LegalField c.args.x.now c.args.x.now c.args.start c.args.end c.in_ok-start.field-0.start c.in_ok-start.field-0.end
 legal-field c =
-    (field-legal c.args.x.now c.args.x.now c.ranges.start c.ranges.end c.check_field.ensures c.in-Legal.is).0
+    (field-legal c.args.x.now c.args.x.now c.ranges.start c.ranges.end c.check_field.ensures c.in_ok-start.was).0
 
 pub run-requires : goal.run-requires
 unfolding meaning Proper
 run-requires c =
-    let l = legal-field (goal.at.run-requires c).In-Legal in
+    let l = legal-field (goal.at.run-requires c).In_ok-start in
     let last = l.last in
     let x = (operand-lengths _ l.first).0 in
-    record { x_nonzero = x; y_nonzero = x; z_nonzero = x; proper = ((l.order, omega arith), (omega arith, omega arith)); z_bound = omega (arith, bit_field-length (value c.args.x.now) c.in-Legal.start c.in-Legal.end) }
+    record { x_nonzero = x; y_nonzero = x; z_nonzero = x; proper = ((l.order, omega arith), (omega arith, omega arith)); z_bound = omega (arith, bit_field-length (value c.args.x.now) c.in_ok-start.field-0.start c.in_ok-start.field-0.end) }
 
-pub returns-in-Legal : goal.returns-in-Legal
+pub returns : goal.returns
 unfolding bit_field_outcome meaning
-returns-in-Legal c =
-    let l = field-legal c.args.x.now c.args.x.now c.ranges.start c.ranges.end c.check_field.ensures c.in-Legal.is in
+returns c =
+    let l = field-legal c.args.x.now c.args.x.now c.ranges.start c.ranges.end c.check_field.ensures c.in_ok-start.was in
     writes_as (sym (operand-twice _ _) ∙ l.1 _ ∙ ap₂ (λ (s e : ℕ). done (bit_field (value c.args.x.now) s e)) l.0.from l.0.to) c.run.ensures
 
-pub returns-in-Refused : goal.returns-in-Refused
+pub returns-in_err-start : goal.returns-in_err-start
 unfolding bit_field_outcome
-returns-in-Refused c =
-    writes-refused _ _ (sym (operand-twice _ _) ∙ field-refused _ _ c.ranges.start c.ranges.end c.check_field.ensures _ c.in-Refused.is) c.refuse.ensures
+returns-in_err-start c =
+    writes-exited _ _ (sym (operand-twice _ _) ∙ field-refused _ _ c.ranges.start c.ranges.end c.check_field.ensures _ c.in_err-start.was) c.from_residual.ensures.1
 
 pub overflow_sub-enough : goal.overflow_sub-enough
-overflow_sub-enough c = (legal-field (goal.at.overflow_sub-enough c).In-Legal).order
+overflow_sub-enough c = (legal-field (goal.at.overflow_sub-enough c).In_ok-start).order

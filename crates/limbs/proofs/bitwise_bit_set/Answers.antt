@@ -1,34 +1,33 @@
 -- `limbs::bitwise_bit_set` meets its contract. Assumes nothing.
 use native.Mathlib.Omega.{arith}
-use mathlib.Core.Path.{ap, ◌∙◌}
+use mathlib.Core.Path.{sym, ap, ◌∙◌}
 use mathlib.Core.Bool.{cond}
 use lib.IntN.{ℤ, pos, nat_abs}
 use lib.Signed.{mag}
-use mir.Syntax.{w64}
-use mir.ValLaws.{to_z_pos}
 use Rattle.bits.specs.Testbit.{testbit}
+use Rattle.words.proofs.WordLaws.{back}
 use Rattle.outcomes.specs.Outcome.{done}
+use Rattle.outcomes.specs.Refusal.{outcome_of}
 use Rattle.limbwords.specs.Value.{value}
-use Rattle.outcomes.specs.Number.{number}
 use Rattle.limbs.specs.Operations.{bit_set_outcome}
-use Rattle.limbstages.proofs.StageLaws.{operand-length}
+use Rattle.limbstages.proofs.StageLaws.{operand-length, exited}
 use Rattle.limbs.proofs.CheckLaws.{natural-refused, natural-legal}
-use Rattle.limbs.proofs.NumberLaws.{number-as, bit-from}
+use Rattle.limbs.proofs.NumberLaws.{bit-from}
 use Rattle.limbs.proofs.bitwise_bit_set.Goals as goal
 
 pub window-requires : goal.window-requires
 window-requires c =
-    let l = natural-legal c.args.x.now c.ranges.position c.check_natural.ensures c.in-Legal.is in
+    let l = natural-legal c.args.x.now c.ranges.position c.check_natural.ensures c.in_ok-at.was in
     (operand-length _ l.0, omega (arith, ap mag l.1.0, c.ranges.position.sfits))
 
-pub returns-in-Legal : goal.returns-in-Legal
-unfolding bit_set_outcome
-returns-in-Legal c =
-    let l = natural-legal c.args.x.now c.ranges.position c.check_natural.ensures c.in-Legal.is in
-    number-as
-    (l.1.1 _ ∙ ap (λ (k : ℤ). done (cond (testbit (value c.args.x.now) (nat_abs k)) (pos 1) (pos 0))) l.1.0)
-    (c.done.ensures ∙ ap (λ (v : ℤ). number (done v)) (to_z_pos w64 _ (omega arith) ∙ bit-from (value c.args.x.now) _ _ c.window.ensures))
+pub returns : goal.returns
+unfolding bit_set_outcome outcome_of
+returns c =
+    let l = natural-legal c.args.x.now c.ranges.position c.check_natural.ensures c.in_ok-at.was in
+    ap done (back (record { sfits = c.from.type_inv }) ∙ c.from.ensures ∙ bit-from (value c.args.x.now) _ _ c.window.ensures)
+    ∙ sym (l.1.1 _ ∙ ap (λ (k : ℤ). done (cond (testbit (value c.args.x.now) (nat_abs k)) (pos 1) (pos 0))) l.1.0)
 
-pub returns-in-Refused : goal.returns-in-Refused
-unfolding bit_set_outcome
-returns-in-Refused c = number-as (natural-refused _ c.ranges.position c.check_natural.ensures _ c.in-Refused.is) c.refuse_number.ensures
+pub returns-in_err-at : goal.returns-in_err-at
+unfolding bit_set_outcome outcome_of
+returns-in_err-at c =
+    ap outcome_of (exited _ c.from_residual.ensures.1) ∙ sym (natural-refused _ c.ranges.position c.check_natural.ensures _ c.in_err-at.was)

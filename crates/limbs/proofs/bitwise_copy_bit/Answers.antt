@@ -13,37 +13,42 @@ use Rattle.limbwords.proofs.ValueLaws.{value-small}
 use Rattle.limbstages.proofs.StageLaws.{limb-operand}
 use Rattle.limbs.specs.Operations.{copy_bit_outcome}
 use Rattle.limbs.proofs.CheckLaws.{LegalBit, new-bit-refused, new-bit-legal}
-use Rattle.limbstages.proofs.WritesLaws.{writes_as, writes-refused}
+use Rattle.limbstages.proofs.WritesLaws.{writes_as, writes-exited}
 use Rattle.limbs.proofs.bitwise_copy_bit.Goals as goal
-use Rattle.limbs.proofs.bitwise_copy_bit.Goals.{In-Legal}
+use Rattle.limbs.proofs.bitwise_copy_bit.Goals.{In_ok-position}
 
-legal-bit : (c : In-Legal) → LegalBit c.args.x.now c.args.position c.args.bit c.in-Legal.position c.in-Legal.bit
-legal-bit c = (new-bit-legal c.args.x.now c.ranges.position c.ranges.bit c.check_new_bit.ensures c.in-Legal.is).0
+legal-bit : (c : In_ok-position) → LegalBit c.args.x.now c.args.position c.args.bit c.in_ok-position.field-0.position c.in_ok-position.field-0.bit
+legal-bit c = (new-bit-legal c.args.x.now c.ranges.position c.ranges.bit c.check_new_bit.ensures c.in_ok-position.was).0
 
 pub run_field-requires : goal.run_field-requires
 unfolding meaning Proper
 run_field-requires c =
-    let l = legal-bit (goal.at.run_field-requires c).In-Legal in
+    let l = legal-bit (goal.at.run_field-requires c).In_ok-position in
     let last = l.last in
-    record { x_value = (l.first, limb-operand _); proper = ((omega arith, omega arith), omega arith); by_index = copy_bit_field-length _ _ _ _ }
+    record { x_value = (l.first, limb-operand _); proper = (omega arith, omega arith); by_index = copy_bit_field-length _ _ _ _ }
 
-pub returns-in-Legal : goal.returns-in-Legal
+pub returns : goal.returns
 unfolding copy_bit_outcome copy_bit meaning
-returns-in-Legal c =
+returns c =
     let x = value c.args.x.now in
-    let at = c.in-Legal.position in
-    let bit = c.in-Legal.bit in
-    let l = legal-bit (goal.at.returns-in-Legal c).In-Legal in
+    let at = c.in_ok-position.field-0.position in
+    let bit = c.in_ok-position.field-0.bit in
+    let l = legal-bit (goal.at.returns c).In_ok-position in
     writes_as
-    ((new-bit-legal c.args.x.now c.ranges.position c.ranges.bit c.check_new_bit.ensures c.in-Legal.is).1 _
+    ((new-bit-legal c.args.x.now c.ranges.position c.ranges.bit c.check_new_bit.ensures c.in_ok-position.was).1 _
     ∙ ap₂ (λ (n : ℕ) (z : ℤ). done (copy_bit x n z)) l.at l.new
     ∙ ap₂ (λ (e : ℕ) (z : ℤ). done (copy_bit_field x at e z)) (sym (add-one at)) (sym (value-small bit (omega (arith, l.small)))))
     c.run_field.ensures
 
-pub returns-in-Refused : goal.returns-in-Refused
+pub returns-in_err-position : goal.returns-in_err-position
 unfolding copy_bit_outcome
-returns-in-Refused c =
-    writes-refused _ _ (new-bit-refused _ c.ranges.position c.ranges.bit c.check_new_bit.ensures _ c.in-Refused.is) c.refuse.ensures
+returns-in_err-position c =
+    writes-exited _ _ (new-bit-refused _ c.ranges.position c.ranges.bit c.check_new_bit.ensures _ c.in_err-position.was) c.from_residual.ensures.1
 
 pub overflow_add-end : goal.overflow_add-end
-overflow_add-end c = record { fits = omega (arith, (legal-bit (goal.at.overflow_add-end c).In-Legal).last) }
+overflow_add-end c = record { fits = omega (arith, (legal-bit (goal.at.overflow_add-end c).In_ok-position).last) }
+
+pub invariant_of-field : goal.invariant_of-field
+invariant_of-field c =
+    let last = (legal-bit (goal.at.invariant_of-field c).In_ok-position).last in
+    record { ordered = omega arith; within = omega arith }

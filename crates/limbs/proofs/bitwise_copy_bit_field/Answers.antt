@@ -9,22 +9,22 @@ use Rattle.limbwords.specs.Value.{value}
 use Rattle.limbwords.specs.Results.{meaning, Proper}
 use Rattle.limbs.specs.Operations.{copy_bit_field_outcome}
 use Rattle.limbs.proofs.CheckLaws.{field-refused, field-legal}
-use Rattle.limbstages.proofs.WritesLaws.{writes_as, writes-refused}
+use Rattle.limbstages.proofs.WritesLaws.{writes_as, writes-exited}
 use Rattle.limbs.proofs.bitwise_copy_bit_field.Goals as goal
 
 pub run_field-requires : goal.run_field-requires
 unfolding meaning Proper
 run_field-requires c =
-    let l = (field-legal c.args.x.now c.args.y.now c.ranges.start c.ranges.end c.check_field.ensures c.in-Legal.is).0 in
-    record { x_value = (l.first, l.second); proper = ((l.order, omega (arith, l.last)), l.last); by_index = copy_bit_field-length _ _ _ _ }
+    let l = (field-legal c.args.x.now c.args.y.now c.ranges.start c.ranges.end c.check_field.ensures c.in_ok-field.was).0 in
+    record { x_value = (l.first, l.second); proper = (l.order, omega (arith, l.last)); by_index = copy_bit_field-length _ _ _ _ }
 
-pub returns-in-Legal : goal.returns-in-Legal
+pub returns : goal.returns
 unfolding copy_bit_field_outcome meaning
-returns-in-Legal c =
-    let l = field-legal c.args.x.now c.args.y.now c.ranges.start c.ranges.end c.check_field.ensures c.in-Legal.is in
+returns c =
+    let l = field-legal c.args.x.now c.args.y.now c.ranges.start c.ranges.end c.check_field.ensures c.in_ok-field.was in
     writes_as (l.1 _ ∙ ap₂ (λ (s e : ℕ). done (copy_bit_field (value c.args.x.now) s e (value c.args.y.now))) l.0.from l.0.to) c.run_field.ensures
 
-pub returns-in-Refused : goal.returns-in-Refused
+pub returns-in_err-field : goal.returns-in_err-field
 unfolding copy_bit_field_outcome
-returns-in-Refused c =
-    writes-refused _ _ (field-refused _ _ c.ranges.start c.ranges.end c.check_field.ensures _ c.in-Refused.is) c.refuse.ensures
+returns-in_err-field c =
+    writes-exited _ _ (field-refused _ _ c.ranges.start c.ranges.end c.check_field.ensures _ c.in_err-field.was) c.from_residual.ensures.1

@@ -1,22 +1,20 @@
 -- `limbs::bitwise_first_bit_set` meets its contract. Assumes nothing.
-use mathlib.Core.Bool.{not}
-use mathlib.Core.Path.{refl, ◌∙◌, ap}
-use mir.Syntax.{w64}
-use mir.ValLaws.{to_z-of_z}
+use mathlib.Core.Path.{sym, ap, ◌∙◌}
+use Rattle.words.proofs.WordLaws.{back}
+use Rattle.outcomes.specs.Outcome.{done}
+use Rattle.outcomes.specs.Refusal.{outcome_of}
 use Rattle.limbs.specs.Operations.{first_bit_set_outcome}
-use Rattle.limbstages.proofs.StageLaws.{legal, operand-lengths}
-use Rattle.limbs.proofs.NumberLaws.{refused-operand, answered}
+use Rattle.limbstages.proofs.StageLaws.{exited, operand-ok, operand-err, operand-lengths}
 use Rattle.limbs.proofs.bitwise_first_bit_set.Goals as goal
 
-pub returns-then-not-is_operand : goal.returns-then-not-is_operand
-unfolding first_bit_set_outcome
-returns-then-not-is_operand c = refused-operand _ _ c.is_operand.ensures (ap not c.if-not-is_operand.true) c.refuse_number.ensures
+pub returns-in_err-check_operand : goal.returns-in_err-check_operand
+unfolding first_bit_set_outcome outcome_of
+returns-in_err-check_operand c =
+    ap outcome_of (exited _ c.from_residual.ensures.1) ∙ sym (operand-err _ _ _ c.in_err-check_operand.ensures)
 
 pub returns : goal.returns
-unfolding first_bit_set_outcome
-returns c =
-    answered _ (legal c.is_operand.ensures (ap not c.if-not-is_operand.false)) refl c.done.ensures
-    (to_z-of_z w64 _ (record { sfits = c.first_bit_set.type_inv }) ∙ c.first_bit_set.ensures)
+unfolding first_bit_set_outcome outcome_of
+returns c = ap done (back (record { sfits = c.first_bit_set.type_inv }) ∙ c.first_bit_set.ensures) ∙ sym (operand-ok _ _ _ c.in_ok-check_operand.ensures).1
 
 pub first_bit_set-requires : goal.first_bit_set-requires
-first_bit_set-requires c = operand-lengths _ (legal c.is_operand.ensures (ap not c.if-not-is_operand.false))
+first_bit_set-requires c = operand-lengths _ (operand-ok _ (done (tt {0})) _ c.in_ok-check_operand.ensures).0

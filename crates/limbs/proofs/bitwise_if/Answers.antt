@@ -1,36 +1,37 @@
 -- `limbs::bitwise_if` meets its contract. Assumes nothing.
-use mathlib.Core.Bool.{not}
 use native.Mathlib.Omega.{arith}
-use mathlib.Core.Path.{◌∙◌, ap}
+use mathlib.Core.Path.{◌∙◌}
+use Rattle.outcomes.specs.Outcome.{done}
 use Rattle.limbwords.specs.Results.{meaning, Proper}
 use Rattle.limbs.specs.Operations.{if_outcome}
 use Rattle.limbs.proofs.LengthLaws.{if-enough}
-use Rattle.limbstages.proofs.StageLaws.{legal, illegal, operand-passed, operand-failed, operands-passed, operands-failed, operand-lengths, operands-lengths}
-use Rattle.limbstages.proofs.WritesLaws.{writes_as, writes-refused}
+use Rattle.limbstages.proofs.StageLaws.{operand-lengths, operand-ok, operand-err, operands-ok, operands-err}
+use Rattle.limbstages.proofs.WritesLaws.{writes_as, writes-exited}
 use Rattle.limbs.proofs.bitwise_if.Goals as goal
 
-pub returns-then-not-are_operands : goal.returns-then-not-are_operands
+pub returns-in_err-check_operands : goal.returns-in_err-check_operands
 unfolding if_outcome
-returns-then-not-are_operands c = writes-refused _ _ (operands-failed _ _ _ (illegal c.are_operands.ensures (ap not c.if-not-are_operands.true))) c.refuse.ensures
+returns-in_err-check_operands c = writes-exited _ _ (operands-err _ _ _ _ c.in_err-check_operands.ensures) c.from_residual.ensures.1
 
-pub returns-then-not-is_operand : goal.returns-then-not-is_operand
+pub returns-in_err-check_operand : goal.returns-in_err-check_operand
 unfolding if_outcome
-returns-then-not-is_operand c =
-    writes-refused _ _
-    (operands-passed _ _ _ (legal c.are_operands.ensures (ap not c.if-not-are_operands.false)) ∙ operand-failed _ _ (illegal c.is_operand.ensures (ap not c.if-not-is_operand.true)))
-    c.refuse-then-not-is_operand.ensures
+returns-in_err-check_operand c =
+    writes-exited _ _
+    ((operands-ok _ _ _ _ c.in_ok-check_operands.ensures).1 ∙ operand-err _ _ _ c.in_err-check_operand.ensures)
+    c.from_residual-in_err-check_operand.ensures.1
 
 pub run-requires : goal.run-requires
 unfolding meaning Proper
 run-requires c =
-    let (x, y) = operands-lengths _ _ (legal c.are_operands.ensures (ap not c.if-not-are_operands.false)) in
-    let z = operand-lengths _ (legal c.is_operand.ensures (ap not c.if-not-is_operand.false)) in
-    let inner = c.max.ensures in
-    record { x_nonzero = x.0; y_nonzero = y.0; z_nonzero = z.0; proper = (tt, (omega arith, omega arith)); z_bound = if-enough _ _ _ _ x.0 y.0 z.0 c.max-enough.ensures.0.0 (omega arith) (omega arith) }
+    let l = (operands-ok _ _ (done (tt {0})) _ c.in_ok-check_operands.ensures).0 in
+    let x = operand-lengths _ l.0 in
+    let y = operand-lengths _ l.1 in
+    let z = operand-lengths _ (operand-ok _ (done (tt {0})) _ c.in_ok-check_operand.ensures).0 in
+    let m = c.max.ensures in
+    let n = c.max-enough.ensures in
+    record { x_nonzero = x.0; y_nonzero = y.0; z_nonzero = z.0; proper = (tt, (omega arith, omega arith)); z_bound = if-enough _ _ _ _ x.0 y.0 z.0 (omega arith) (omega arith) (omega arith) }
 
 pub returns : goal.returns
 unfolding if_outcome meaning
 returns c =
-    writes_as
-    (operands-passed _ _ _ (legal c.are_operands.ensures (ap not c.if-not-are_operands.false)) ∙ operand-passed _ _ (legal c.is_operand.ensures (ap not c.if-not-is_operand.false)))
-    c.run.ensures
+    writes_as ((operands-ok _ _ _ _ c.in_ok-check_operands.ensures).1 ∙ (operand-ok _ _ _ c.in_ok-check_operand.ensures).1) c.run.ensures

@@ -10,8 +10,8 @@ use Rattle.bits.proofs.LogicalLaws.{not-bitwise}
 use Rattle.outcomes.specs.Outcome.{done}
 use Rattle.limbwords.specs.Value.{limb_count}
 use Rattle.limbwords.specs.Results.{logic_of, meaning, Proper}
-use Rattle.limbstages.proofs.StageLaws.{legal, illegal, operand-passed, operand-failed, operand-lengths, operand-count}
-use Rattle.limbstages.proofs.WritesLaws.{writes_as, writes-refused}
+use Rattle.limbstages.proofs.StageLaws.{operand-ok, operand-err, operand-lengths, operand-count}
+use Rattle.limbstages.proofs.WritesLaws.{writes_as, writes-exited}
 use Rattle.limbs.specs.Operations.{not_outcome}
 use Rattle.limbs.proofs.bitwise_not.Goals as goal
 
@@ -20,18 +20,18 @@ not-count : (z : ℤ) → limb_count z ≡ limb_count (bitwise (λ a b. not a) z
 unfolding limb_count
 not-count z = ap (λ (n : ℕ). n / 32 + 1) (sym (bit_length-not z)) ∙ ap limb_count (not-bitwise z)
 
-pub returns-then-not-is_operand : goal.returns-then-not-is_operand
+pub returns-in_err-check_operand : goal.returns-in_err-check_operand
 unfolding not_outcome
-returns-then-not-is_operand c = writes-refused _ _ (operand-failed _ _ (illegal c.is_operand.ensures (ap not c.if-not-is_operand.true))) c.refuse.ensures
+returns-in_err-check_operand c = writes-exited _ _ (operand-err _ _ _ c.in_err-check_operand.ensures) c.from_residual.ensures.1
 
 pub store-requires : goal.store-requires
 unfolding meaning Proper logic_of
 store-requires c =
-    let l = legal c.is_operand.ensures (ap not c.if-not-is_operand.false) in
+    let l = (operand-ok _ (done (tt {0})) _ c.in_ok-check_operand.ensures).0 in
     let x = operand-lengths _ l in
     record { x_nonzero = x.0; y_nonzero = x.0; z_nonzero = x.0; proper = (tt, omega (arith, x.1)); n_value = operand-count _ l ∙ not-count _ }
 
 pub returns : goal.returns
 unfolding not_outcome meaning logic_of
 returns c =
-    writes_as (operand-passed _ _ (legal c.is_operand.ensures (ap not c.if-not-is_operand.false)) ∙ ap done (not-bitwise _)) c.store.ensures
+    writes_as ((operand-ok _ _ _ c.in_ok-check_operand.ensures).1 ∙ ap done (not-bitwise _)) c.store.ensures

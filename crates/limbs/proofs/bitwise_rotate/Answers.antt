@@ -11,28 +11,28 @@ use Rattle.limbwords.specs.Value.{value}
 use Rattle.limbwords.specs.Results.{meaning, Proper}
 use Rattle.limbs.specs.Operations.{rotate_outcome}
 use Rattle.limbs.proofs.CheckLaws.{LegalField, rotation-refused, rotation-legal}
-use Rattle.limbstages.proofs.WritesLaws.{writes_as, writes-refused}
+use Rattle.limbstages.proofs.WritesLaws.{writes_as, writes-exited}
 use Rattle.limbs.proofs.bitwise_rotate.Goals as goal
-use Rattle.limbs.proofs.bitwise_rotate.Goals.{In-Legal}
+use Rattle.limbs.proofs.bitwise_rotate.Goals.{In_ok-field}
 
-legal-field : (c : In-Legal) → LegalField c.args.x.now c.args.x.now c.args.start c.args.end c.in-Legal.start c.in-Legal.end
+legal-field : (c : In_ok-field) → LegalField c.args.x.now c.args.x.now c.args.start c.args.end c.in_ok-field.field-0.field.start c.in_ok-field.field-0.field.end
 legal-field c =
-    (rotation-legal c.args.x.now c.ranges.start c.ranges.end c.ranges.count c.check_rotation.ensures c.in-Legal.is).0
+    (rotation-legal c.args.x.now c.ranges.start c.ranges.end c.ranges.count c.check_rotation.ensures c.in_ok-field.was).0
 
 pub run_field-requires : goal.run_field-requires
 unfolding meaning Proper
 run_field-requires c =
-    let l = legal-field (goal.at.run_field-requires c).In-Legal in
+    let l = legal-field (goal.at.run_field-requires c).In_ok-field in
     let last = l.last in
-    record { x_value = (l.first, l.first); proper = (((l.order, omega arith), reduced-le _ _ c.reduced-by.ensures), last); by_index = rotate_bit_field-length _ _ _ _ }
+    record { x_value = (l.first, l.first); proper = ((l.order, omega arith), reduced-le _ _ c.reduced-by.ensures); by_index = rotate_bit_field-length _ _ _ _ }
 
-pub returns-in-Legal : goal.returns-in-Legal
+pub returns : goal.returns
 unfolding rotate_outcome meaning
-returns-in-Legal c =
+returns c =
     let x = value c.args.x.now in
-    let s = c.in-Legal.start in
-    let e = c.in-Legal.end in
-    let l = rotation-legal c.args.x.now c.ranges.start c.ranges.end c.ranges.count c.check_rotation.ensures c.in-Legal.is in
+    let s = c.in_ok-field.field-0.field.start in
+    let e = c.in_ok-field.field-0.field.end in
+    let l = rotation-legal c.args.x.now c.ranges.start c.ranges.end c.ranges.count c.check_rotation.ensures c.in_ok-field.was in
     writes_as
     (l.1.1 _
     ∙ ap₂ (λ (s e : ℕ). done (rotate_bit_field x s e c.args.count)) l.0.from l.0.to
@@ -40,10 +40,10 @@ returns-in-Legal c =
     ∙ ap done (rotate-reduced x s e _ c.reduced-by.ensures))
     c.run_field.ensures
 
-pub returns-in-Refused : goal.returns-in-Refused
+pub returns-in_err-field : goal.returns-in_err-field
 unfolding rotate_outcome
-returns-in-Refused c =
-    writes-refused _ _ (rotation-refused _ c.ranges.start c.ranges.end c.ranges.count c.check_rotation.ensures _ c.in-Refused.is) c.refuse.ensures
+returns-in_err-field c =
+    writes-exited _ _ (rotation-refused _ c.ranges.start c.ranges.end c.ranges.count c.check_rotation.ensures _ c.in_err-field.was) c.from_residual.ensures.1
 
 pub overflow_sub-end : goal.overflow_sub-end
-overflow_sub-end c = (legal-field (goal.at.overflow_sub-end c).In-Legal).order
+overflow_sub-end c = (legal-field (goal.at.overflow_sub-end c).In_ok-field).order

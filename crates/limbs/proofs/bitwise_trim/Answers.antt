@@ -1,6 +1,7 @@
 -- `limbs::bitwise_trim` meets its contract. Assumes nothing.
 use mathlib.Core.Bool.{not}
-use mathlib.Core.Path.{ap}
+use mathlib.Core.Path.{ap, refl}
+use Rattle.outcomes.specs.Refusal.{code_of}
 use native.Mathlib.Omega.{arith}
 use lib.ListN.{length}
 use Rattle.outcomes.proofs.OutcomeLaws.{passed, failed}
@@ -13,8 +14,8 @@ use Rattle.limbs.specs.Operations.{trim_outcome}
 use Rattle.limbs.proofs.bitwise_trim.Goals as goal
 
 pub returns-then-not-has_limbs : goal.returns-then-not-has_limbs
-unfolding trim_outcome untrimmed
-returns-then-not-has_limbs c = writes-refused _ _ (failed 7 _ (illegal c.has_limbs.ensures (ap not c.if-not-has_limbs.true))) c.refuse.ensures
+unfolding trim_outcome untrimmed code_of
+returns-then-not-has_limbs c = writes-refused _ _ (failed 7 _ (illegal c.has_limbs.ensures (ap not c.if-not-has_limbs.true))) refl
 
 pub store_limbs-requires : goal.store_limbs-requires
 store_limbs-requires c =

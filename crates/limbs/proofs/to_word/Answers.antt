@@ -1,33 +1,37 @@
 -- `limbs::to_word` meets its contract. Assumes nothing.
-use mathlib.Core.Bool.{not}
 use native.Mathlib.Omega.{arith}
-use mathlib.Core.Path.{◌∙◌, ap}
-use mir.Syntax.{w64}
-use mir.ValLaws.{to_z-of_z}
-use Rattle.limbs.specs.Operations.{word_outcome}
+use Rattle.outcomes.specs.Refusal.{code_of}
 use Rattle.outcomes.proofs.OutcomeLaws.{passed, failed}
-use Rattle.limbstages.proofs.StageLaws.{legal, operand-lengths, operand-count}
-use Rattle.limbs.proofs.NumberLaws.{refused-operand, later, answered, fits_word, exceeds-word}
+use Rattle.limbs.proofs.NumberLaws.{fits_word, exceeds-word}
+use mathlib.Core.Path.{sym, ap, ◌∙◌}
+use Rattle.words.proofs.WordLaws.{back}
+use Rattle.outcomes.specs.Outcome.{done}
+use Rattle.outcomes.specs.Refusal.{outcome_of}
+use Rattle.limbs.specs.Operations.{word_outcome}
+use Rattle.limbstages.proofs.StageLaws.{exited, operand-ok, operand-err, operand-lengths, operand-count}
 use Rattle.limbs.proofs.to_word.Goals as goal
 
-pub returns-then-not-is_operand : goal.returns-then-not-is_operand
-unfolding word_outcome
-returns-then-not-is_operand c = refused-operand _ _ c.is_operand.ensures (ap not c.if-not-is_operand.true) c.refuse_number.ensures
+pub returns-in_err-check_operand : goal.returns-in_err-check_operand
+unfolding word_outcome outcome_of
+returns-in_err-check_operand c =
+    ap outcome_of (exited _ c.from_residual.ensures.1) ∙ sym (operand-err _ _ _ c.in_err-check_operand.ensures)
 
-pub returns-then-bit_length-ge64 : goal.returns-then-bit_length-ge64
-unfolding word_outcome
-returns-then-bit_length-ge64 c =
-    later _ (legal c.is_operand.ensures (ap not c.if-not-is_operand.false)) (failed _ _ (exceeds-word _ (omega (arith, c.bit_length.ensures)))) c.refuse_number-then-bit_length-ge64.ensures
+pub bit_length-requires : goal.bit_length-requires
+bit_length-requires c =
+    let l = (operand-ok _ (done (tt {0})) _ c.in_ok-check_operand.ensures).0 in
+    record { x_nonzero = operand-lengths _ l; x_len = operand-count _ l }
 
 pub word-requires : goal.word-requires
 word-requires c =
-    ((operand-lengths _ (legal c.is_operand.ensures (ap not c.if-not-is_operand.false))).0, omega (arith, c.bit_length.ensures))
+    ((operand-lengths _ (operand-ok _ (done (tt {0})) _ c.in_ok-check_operand.ensures).0).0, omega (arith, c.bit_length.ensures))
+
+pub returns-then-bit_length-ge64 : goal.returns-then-bit_length-ge64
+unfolding word_outcome outcome_of code_of
+returns-then-bit_length-ge64 c =
+    sym ((operand-ok _ _ _ c.in_ok-check_operand.ensures).1 ∙ failed _ _ (exceeds-word _ (omega (arith, c.bit_length.ensures))))
 
 pub returns : goal.returns
-unfolding word_outcome
+unfolding word_outcome outcome_of
 returns c =
-    answered _ (legal c.is_operand.ensures (ap not c.if-not-is_operand.false)) (passed _ _ (fits_word _ (omega (arith, c.bit_length.ensures)))) c.done.ensures
-    (to_z-of_z w64 _ (record { sfits = c.word.type_inv }) ∙ c.word.ensures)
-
-pub bit_length-requires : goal.bit_length-requires
-bit_length-requires c = let l = legal c.is_operand.ensures (ap not c.if-not-is_operand.false) in record { x_nonzero = operand-lengths _ l; x_len = operand-count _ l }
+    ap done (back (record { sfits = c.word.type_inv }) ∙ c.word.ensures)
+    ∙ sym ((operand-ok _ _ _ c.in_ok-check_operand.ensures).1 ∙ passed _ _ (fits_word _ (omega (arith, c.bit_length.ensures))))

@@ -20,7 +20,7 @@ within : (c : Else-not-has_capacity) → c.args.first ≤ length c.args.out.now
 within c = first-within _ c.requires.n_value (capacity c)
 
 pub returns-then-not-has_capacity : goal.returns-then-not-has_capacity
-returns-then-not-has_capacity c = no-capacity _ _ _ c.requires.n_value c.has_capacity.ensures (ap not c.if-not-has_capacity.true) c.refuse.ensures
+returns-then-not-has_capacity c = no-capacity _ _ _ c.requires.n_value c.has_capacity.ensures (ap not c.if-not-has_capacity.true)
 
 pub write-requires : goal.write-requires
 write-requires c = record { x_nonzero = c.requires.x_nonzero; y_nonzero = c.requires.y_nonzero; z_nonzero = c.requires.z_nonzero; proper = c.requires.proper.0; n_in_bounds = (omega (arith, part_length c.args.out.now c.args.first, capacity (goal.at.write-requires c).Else-not-has_capacity), c.requires.proper.1) }

@@ -19,7 +19,7 @@ within : (c : Else-not-has_capacity) → c.args.first ≤ length c.args.out.now
 within c = first-within _ c.requires.count_value (capacity c)
 
 pub returns-then-not-has_capacity : goal.returns-then-not-has_capacity
-returns-then-not-has_capacity c = no-capacity _ _ _ c.requires.count_value c.has_capacity.ensures (ap not c.if-not-has_capacity.true) c.refuse.ensures
+returns-then-not-has_capacity c = no-capacity _ _ _ c.requires.count_value c.has_capacity.ensures (ap not c.if-not-has_capacity.true)
 
 pub copy-requires : goal.copy-requires
 copy-requires c = record { x_nonzero = c.requires.x_nonzero.0; n_in_bounds = (omega (arith, part_length c.args.out.now c.args.first, capacity (goal.at.copy-requires c).Else-not-has_capacity), c.requires.x_nonzero.1) }

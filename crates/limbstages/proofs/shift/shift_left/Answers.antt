@@ -1,5 +1,7 @@
 -- `limbstages::shift::shift_left` meets its contract. Assumes nothing.
 use native.Mathlib.Omega.{arith}
+use mathlib.Core.Path.{refl}
+use Rattle.outcomes.specs.Refusal.{code_of}
 use Rattle.limbwords.specs.Results.{meaning, Proper}
 use Rattle.limbstages.proofs.WritesLaws.{writes-refused, writes_as}
 use Rattle.limbstages.proofs.ShiftLaws.{legal-lengths, left-enough, capped_le, left-done, left-refused}
@@ -13,9 +15,9 @@ measure-n-requires c =
     record { x_nonzero = n.0; y_nonzero = n.0; z_nonzero = n.0; proper = (omega arith, (omega arith, omega (arith, n.1))); z_bound = left-enough _ c.requires _ }
 
 pub returns-then-n-gt-MOST_LIMBS : goal.returns-then-n-gt-MOST_LIMBS
-unfolding meaning
+unfolding meaning code_of
 returns-then-n-gt-MOST_LIMBS c =
-    writes-refused _ _ (left-refused _ c.requires c.args.by c.capped-distance.ensures c.measure-n.ensures c.if-n-gt-MOST_LIMBS.true) c.refuse.ensures
+    writes-refused _ _ (left-refused _ c.requires c.args.by c.capped-distance.ensures c.measure-n.ensures c.if-n-gt-MOST_LIMBS.true) refl
 
 pub store-requires : goal.store-requires
 unfolding Proper
