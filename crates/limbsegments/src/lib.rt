@@ -2,6 +2,7 @@
 // operation one by one, and the results of the logical operations.
 #![tactic(auto)]
 
+pub mod each;
 pub mod index;
 pub mod logical;
 pub mod segment;

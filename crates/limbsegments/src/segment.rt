@@ -4,7 +4,7 @@ ghost use Rattle.limbwords.specs.Value.{value};
 ghost use Rattle.limbwords.specs.Results.{bits_from, limb_at, meaning, Proper};
 ghost use Rattle.outcomes.specs.Puts.{Puts};
 
-use super::index::{min, saturating_sub};
+use super::each::put_each;
 use limbwords::any::limb_of;
 use limbwords::limb::{join, window};
 use limbwords::result::Operation;
@@ -13,24 +13,16 @@ pub fn put_zeros(from: usize, to: usize, part: &mut [u32])
     requires { (from ≤ to) × (to ≤ length part.old) }
     ensures { Puts 0 (λ j. 0) part.old part.new from to }
 {
-    let mut j = from;
-    while j < to {
-        part[j] = 0;
-        j += 1;
-    }
+    part[from..to].fill(0);
 }
 
 // Limbs of x from limb i on, one for each limb.
 fn put_copied(x: &[u32], i: usize, from: usize, to: usize, part: &mut [u32])
     requires from_le_to { (from ≤ to) × (to ≤ length part.old) }
-    requires from_in_bounds { to - from ≤ length x.now - i }
+    requires from_in_bounds { i + (to - from) ≤ length x.now }
     ensures { Puts 0 (λ j. bits_from (value x.now) (32 * i + 32 * (j - from))) part.old part.new from to }
 {
-    let mut j = from;
-    while j < to {
-        part[j] = x[i + (j - from)];
-        j += 1;
-    }
+    part[from..to].copy_from_slice(&x[i..i + (to - from)]);
 }
 
 // Windows of x from bit k of limb i on, one for each limb, each joined from two limbs of x.
@@ -40,18 +32,19 @@ fn put_joined(x: &[u32], i: usize, k: u64, from: usize, to: usize, part: &mut [u
     requires from_in_bounds { to - from ≤ length x.now - (i + 1) }
     ensures { Puts 0 (λ j. bits_from (value x.now) (32 * i + k + 32 * (j - from))) part.old part.new from to }
 {
-    let mut j = from;
-    while j < to {
-        part[j] = join(x[i + (j - from)], x[i + (j - from) + 1], k);
-        j += 1;
-    }
+    put_each(
+        |j| join(x[i + (j - from)], x[i + (j - from) + 1], k),
+        from,
+        to,
+        part,
+    );
 }
 
 // The same: where k is 0, the windows are limbs of x.
 fn put_inner(x: &[u32], i: usize, k: u64, from: usize, to: usize, part: &mut [u32])
     requires k_bound { k < 32 }
     requires from_le_to { (from ≤ to) × (to ≤ length part.old) }
-    requires from_in_bounds { to - from ≤ length x.now - (i + 1) }
+    requires from_in_bounds { (i ≤ length x.now) × (to - from ≤ length x.now - (i + 1)) }
     ensures { Puts 0 (λ j. bits_from (value x.now) (32 * i + k + 32 * (j - from))) part.old part.new from to }
 {
     if k == 0 {
@@ -68,11 +61,7 @@ fn put_outer(x: &[u32], at: u64, from: usize, to: usize, part: &mut [u32])
     requires to_bound { to < 2 ^ 32 }
     ensures { Puts 0 (λ j. bits_from (value x.now) (at + 32 * (j - from))) part.old part.new from to }
 {
-    let mut j = from;
-    while j < to {
-        part[j] = window(x, at + 32 * ((j - from) as u64));
-        j += 1;
-    }
+    put_each(|j| window(x, at + 32 * ((j - from) as u64)), from, to, part);
 }
 
 // Windows of x from a position on, one for each limb.
@@ -82,9 +71,9 @@ pub fn put_windows(x: &[u32], at: u64, from: usize, to: usize, part: &mut [u32])
     requires to_bound { to < 2 ^ 32 }
     ensures { Puts 0 (λ j. bits_from (value x.now) (at + 32 * (j - from))) part.old part.new from to }
 {
-    let i = (at / 32) as usize;
-    let whole = saturating_sub(x.len() as u64, (i as u64) + 1) as usize;
-    let inner = from + min(to - from, whole);
+    let i = ((at / 32) as usize).min(x.len());
+    let whole = x.len().saturating_sub(i + 1);
+    let inner = from + whole.min(to - from);
     put_inner(x, i, at % 32, from, inner, part);
     put_outer(x, at + 32 * ((inner - from) as u64), inner, to, part);
 }
@@ -105,9 +94,5 @@ pub fn put_limbs(
     requires to_bound { to < 2 ^ 32 }
     ensures { Puts 0 (limb_at (meaning operation (value x.now) (value y.now) (value z.now))) part.old part.new from to }
 {
-    let mut j = from;
-    while j < to {
-        part[j] = limb_of(operation, x, y, z, j);
-        j += 1;
-    }
+    put_each(|j| limb_of(operation, x, y, z, j), from, to, part);
 }

@@ -8,7 +8,8 @@ ghost use Rattle.limbwords.specs.Results.{limb_at, meaning, Proper};
 ghost use Rattle.outcomes.specs.Puts.{Puts};
 ghost use Rattle.limbwrite.specs.Inner.{Moved};
 
-use limbsegments::index::{first_past, saturating_sub};
+use limbsegments::each::put_each;
+use limbsegments::index::first_past;
 use limbsegments::logical::{write_if, write_logical};
 use limbsegments::segment::{put_limbs, put_windows, put_zeros};
 use limbwords::field::reverse_limb;
@@ -48,7 +49,7 @@ fn put_piece(
     let inner = first_past(piece.from + 31, from, n);
     let stop = first_past(piece.to, inner, n);
     put_limbs(operation, x, y, x, from, inner, part);
-    let at = saturating_sub(32 * (inner as u64) + piece.up, piece.down);
+    let at = (32 * (inner as u64) + piece.up).saturating_sub(piece.down);
     put_windows(source, at, inner, stop, part);
     stop
 }
@@ -217,11 +218,7 @@ fn write_reverse(x: &[u32], start: u64, end: u64, n: usize, part: &mut [u32])
     requires n_in_bounds { (n ≤ length part.old) × (n < 2 ^ 32) }
     ensures { Puts 0 (limb_at (reverse_bit_field (value x.now) start end)) part.old part.new 0 n }
 {
-    let mut j = 0;
-    while j < n {
-        part[j] = reverse_limb(x, start, end, j);
-        j += 1;
-    }
+    put_each(|j| reverse_limb(x, start, end, j), 0, n, part);
 }
 
 // The first n limbs, by the operation's own writer.

@@ -4,6 +4,4 @@ use Rattle.outcomes.proofs.PutsLaws.{puts-join}
 use Rattle.limbsegments.proofs.logical.write_if.Goals as goal
 
 pub returns : goal.returns
-returns c =
-    puts-join c.write_if_common.ensures c.write_if_padded.ensures (omega arith)
-    c.min-common.ensures.0
+returns c = puts-join c.write_if_common.ensures c.write_if_padded.ensures (omega arith) (omega arith)

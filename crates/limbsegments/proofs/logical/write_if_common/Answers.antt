@@ -1,28 +1,23 @@
--- `limbsegments::logical::write_if_common` meets its contract, turn by turn. Assumes nothing.
-use Prim.Native.Nat.{◌*◌}
+-- `limbsegments::logical::write_if_common` meets its contract: a limb that an operand has is its bits from there on. Assumes nothing.
+use Rattle.std.proofs.Common.{rules, bit_and, bit_or}
+use Prim.Native.Nat.{◌*◌, ◌-◌}
 use native.Mathlib.Omega.{arith}
-use mathlib.Core.Path.{◌∙◌}
+use mathlib.Core.Path.{◌≡◌, ◌∙◌}
+use lib.ListN.{get_or}
 use Rattle.limbwords.specs.Value.{value}
 use Rattle.limbwords.proofs.LimbLaws.{limb-value}
 use Rattle.limbwords.proofs.LogicalLaws.{bits_from-if}
-use Rattle.outcomes.proofs.PutsLaws.{turn-none, turn_more, turn-all}
 use Rattle.limbsegments.proofs.logical.write_if_common.Goals as goal
 
-pub loop-j-preserved : goal.loop-j-preserved
-loop-j-preserved c =
-    let j = c.loop-j.j in
-    let x = limb-value c.args.x.now j (λ i. (c.type_inv.x i).fits) (omega arith) in
-    let y = limb-value c.args.y.now j (λ i. (c.type_inv.y i).fits) (omega arith) in
-    let z = limb-value c.args.z.now j (λ i. (c.type_inv.z i).fits) (omega arith) in
-    turn_more _ c.loop-j.invariant
-    (c.choose.ensures ∙ bits_from-if (value c.args.x.now) (value c.args.y.now) (value c.args.z.now) (32 * j) x y z)
-    c.loop-j-test.true (omega arith)
-
 pub returns : goal.returns
-returns c = turn-all c.loop-j.invariant c.loop-j-test.false
-
-pub loop-j-init : goal.loop-j-init
-loop-j-init c = turn-none _ _ _ _ (omega arith)
-
-pub shape_of-part : goal.shape_of-part
-shape_of-part c = c.loop-j.invariant.so_far.size
+returns c =
+    c.put_each.ensures _ (λ j v h k p.
+    let xs = c.args.x.now in
+    let ys = c.args.y.now in
+    let zs = c.args.z.now in
+    let x = limb-value xs j (λ i. (c.type_inv.x i).fits) (omega arith) in
+    let y = limb-value ys j (λ i. (c.type_inv.y i).fits) (omega arith) in
+    let z = limb-value zs j (λ i. (c.type_inv.z i).fits) (omega arith) in
+    let m = get_or xs j 0 in
+    let is : v ≡ bit_or (bit_and m (get_or ys j 0)) (bit_and (4294967295 - m) (get_or zs j 0)) = search rules in
+    is ∙ bits_from-if (value xs) (value ys) (value zs) (32 * j) x y z)
