@@ -1,104 +1,160 @@
 // Why a fixnum call is refused, in words.
-use super::domains::put_broken_rule;
-use super::request::Request;
-use fxtable::answer::Answer;
+use super::domains::broken_rule;
+use super::request::{Refused, Request};
 use fxtable::table::{CODES, signature_of};
 use fxtable::width::{LARGEST_WIDTH, LEAST_WIDTH};
-use line::refusal::{put_count_rule, put_offender, put_refused, put_span};
-use names::Table;
-use output::{put, put_natural};
-use words::sign::power;
+use line::refusal;
+use line::refusal::{Argument, Counts, Span, WrongCount, argument_at};
+use names::Operation;
+use outcomes::refusal::Refusal;
+use std::fmt;
 
 // `the width is 65, and must be from 24 to 64`
-fn put_limit(what: &[u8], n: u64, first: u64, last: u64, out: &mut [u8], at: usize) -> usize {
-    let at = put(b"the ", out, at);
-    let at = put(what, out, at);
-    let at = put(b" is ", out, at);
-    let at = put_natural(n, out, at);
-    let at = put(b", and must be from ", out, at);
-    put_span(first, last, out, at)
+#[derive(Clone, Copy)]
+pub struct Limit {
+    what: &'static str,
+    value: u64,
+    range: Span,
 }
 
-pub fn put_width_limit(width: u64, out: &mut [u8], at: usize) -> usize {
-    put_limit(b"width", width, LEAST_WIDTH, LARGEST_WIDTH, out, at)
-}
-
-// `argument 2, the start, is -1: it must be from 0 to width - 1`
-fn put_argument_reason(request: Request, answer: Answer, out: &mut [u8], at: usize) -> usize {
-    let args = request.args;
-    let at = put_offender(request.code, answer.place, args, out, at);
-    put_broken_rule(request.code, answer.refusal, answer.place, out, at)
-}
-
-// The reason of a refusal. It holds for every width with the same answer.
-pub fn put_reason(
-    width: u64,
-    request: Request,
-    answer: Answer,
-    out: &mut [u8],
-    at: usize,
-) -> usize {
-    if answer.place != 0 {
-        return put_argument_reason(request, answer, out, at);
+impl fmt::Display for Limit {
+    fn fmt<W: fmt::Write>(&self, f: &mut fmt::Formatter<W>) -> fmt::Result {
+        let what = self.what;
+        write!(
+            f,
+            "the {what} is {}, and must be from {}",
+            self.value, self.range
+        )
     }
+}
+
+pub fn width_limit(width: u64) -> Limit {
+    Limit {
+        what: "width",
+        value: width,
+        range: Span {
+            first: LEAST_WIDTH,
+            last: LARGEST_WIDTH,
+        },
+    }
+}
+
+fn code_limit(code: u64) -> Limit {
+    Limit {
+        what: "code",
+        value: code,
+        range: Span {
+            first: 1,
+            last: CODES,
+        },
+    }
+}
+
+// `fxnot takes 1 argument, not 2`
+fn wrong_count(request: Request) -> WrongCount {
     let signature = signature_of(request.code);
-    let refusal = answer.refusal;
-    match refusal {
-        1 => put_width_limit(width, out, at),
-        2 => put_limit(b"code", request.code, 1, CODES, out, at),
-        3 => put_count_rule(
-            Table::Fixnum,
-            request.code,
-            signature.least,
-            signature.most,
-            request.count,
-            out,
-            at,
-        ),
-        _ => put(b"the exact result must be a fixnum", out, at),
+    WrongCount {
+        operation: Operation::Fixnum(request.code),
+        counts: Counts {
+            least: signature.least,
+            most: signature.most,
+        },
+        count: request.count,
     }
 }
 
-// n - 1, or 0 for 0.
-fn before(n: u64) -> u64 {
-    if n == 0 { 0 } else { n - 1 }
+// The reason of a refusal: `argument 2, the start, is -1: it must be from 0 to width - 1`. It holds for every width with the same answer.
+#[derive(Clone, Copy)]
+pub struct Reason {
+    pub width: u64,
+    pub request: Request,
+    pub refused: Refused,
 }
 
-// `, at width 24 from -8388608 to 8388607`, and the end of the line
-pub fn put_range(width: u64, out: &mut [u8], at: usize) -> usize {
-    let half = power(before(width) % 64);
-    let at = put(b", at width ", out, at);
-    let at = put_natural(width, out, at);
-    let at = put(b" from -", out, at);
-    let at = put_natural(half, out, at);
-    let at = put(b" to ", out, at);
-    let at = put_natural(before(half), out, at);
-    put(b"\n", out, at)
+impl fmt::Display for Reason {
+    fn fmt<W: fmt::Write>(&self, f: &mut fmt::Formatter<W>) -> fmt::Result {
+        let Request { code, args, .. } = self.request;
+        let refusal = self.refused.refusal;
+        if let Some(place) = self.refused.place {
+            let argument = Argument { code, place };
+            let value = argument_at(place, args);
+            let rule = broken_rule(code, refusal, place);
+            return write!(f, "{argument} is {value}: it {rule}");
+        }
+        match refusal {
+            Refusal::Width => write!(f, "{}", width_limit(self.width)),
+            Refusal::Code => write!(f, "{}", code_limit(code)),
+            Refusal::Count => write!(f, "{}", wrong_count(self.request)),
+            _ => write!(f, "the exact result must be a fixnum"),
+        }
+    }
 }
 
-// Whether an argument or, where no argument is named, the result is no fixnum.
-fn is_about_fixnums(refusal: u64, place: u64) -> bool {
-    refusal == 4 || (5 <= refusal && place == 0)
+// The fixnums of a width: `, at width 24 from -8388608 to 8388607`.
+#[derive(Clone, Copy)]
+pub struct Range(pub u64);
+
+impl fmt::Display for Range {
+    fn fmt<W: fmt::Write>(&self, f: &mut fmt::Formatter<W>) -> fmt::Result {
+        let width = self.0;
+        let half = 1u64 << (width.saturating_sub(1) % 64);
+        write!(
+            f,
+            ", at width {width} from -{half} to {}",
+            half.saturating_sub(1)
+        )
+    }
 }
 
-// The end of a refused line, with the fixnums of the width where the reason names them.
-pub fn put_end(width: u64, refusal: u64, place: u64, out: &mut [u8], at: usize) -> usize {
-    if is_about_fixnums(refusal, place) {
-        put_range(width, out, at)
-    } else {
-        put(b"\n", out, at)
+// The end of a refused line: the fixnums of the width where the reason names them.
+#[derive(Clone, Copy)]
+pub struct Ending {
+    pub width: u64,
+    pub refused: Refused,
+}
+
+impl fmt::Display for Ending {
+    fn fmt<W: fmt::Write>(&self, f: &mut fmt::Formatter<W>) -> fmt::Result {
+        if self.refused.is_about_fixnums() {
+            write!(f, "{}", Range(self.width))
+        } else {
+            Ok(())
+        }
+    }
+}
+
+impl Refused {
+    // Whether an argument or, where no argument is named, the result is no fixnum.
+    fn is_about_fixnums(self) -> bool {
+        match self.refusal {
+            Refusal::Width | Refusal::Code | Refusal::Count => false,
+            Refusal::NotFixnum => true,
+            _ => self.place.is_none(),
+        }
     }
 }
 
 // The line of a refused call.
-pub fn put_refusal(
-    width: u64,
-    request: Request,
-    answer: Answer,
-    out: &mut [u8],
-    at: usize,
-) -> usize {
-    let at = put_refused(answer.refusal, out, at);
-    let at = put_reason(width, request, answer, out, at);
-    put_end(width, answer.refusal, answer.place, out, at)
+#[derive(Clone, Copy)]
+pub struct RefusedCall {
+    pub width: u64,
+    pub request: Request,
+    pub refused: Refused,
+}
+
+impl fmt::Display for RefusedCall {
+    fn fmt<W: fmt::Write>(&self, f: &mut fmt::Formatter<W>) -> fmt::Result {
+        let RefusedCall {
+            width,
+            request,
+            refused,
+        } = *self;
+        let head = refusal::Refused(refused.refusal);
+        let reason = Reason {
+            width,
+            request,
+            refused,
+        };
+        writeln!(f, "{head}{reason}{}", Ending { width, refused })
+    }
 }
