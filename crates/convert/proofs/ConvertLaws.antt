@@ -1,24 +1,23 @@
 -- Limbs to a fixnum, from what the same limbs are as a word. Assumes nothing.
-use Prim.Native.Nat.{ℕ, ◌-◌, ◌<◌, ◌^◌}
+use Prim.Native.Nat.{ℕ}
 use mathlib.Core.Path.{◌≡◌, refl, sym, ap, ◌∙◌}
-use mathlib.Core.Bool.{Bool, true, false, cond, not, true≢false}
+use mathlib.Core.Bool.{Bool, true, false, cond, true≢false}
 use mathlib.Core.List.{List}
 use lib.IntN.{ℤ}
-use lib.Pow.{pow_pos}
-use lib.Signed.{mag}
 use mir.Syntax.{w64}
 use mir.Val.{to_z, of_z}
-use borrow.Author.Tests.{lt-ltb, not-true, not-false}
+use Rattle.std.specs.Prelude.{Ok, Err}
 use Rattle.bits.specs.Testbit.{fits}
 use Rattle.words.proofs.WordLaws.{back-word, fits-mag}
 use Rattle.fxtable.specs.Domains.{is_width}
 use Rattle.fxtable.proofs.CallLaws.{fits_word}
 use Rattle.limbwords.specs.Value.{value}
-use Rattle.outcomes.specs.declared.number.Number.{Number}
+use Rattle.outcomes.specs.declared.refusal.Refusal.{Refusal}
 use Rattle.outcomes.specs.Outcome.{Outcome, refused, done, refuse, guard, guard_at}
-use Rattle.outcomes.proofs.OutcomeLaws.{passed, failed}
-use Rattle.outcomes.specs.Number.{number}
+use Rattle.outcomes.proofs.OutcomeLaws.{passed, failed, stage-passed, done-injective}
+use Rattle.outcomes.specs.Refusal.{outcome_of, code_of}
 use Rattle.limbstages.specs.Stages.{is_operand, operand}
+use Rattle.limbstages.proofs.StageLaws.{operand-legal}
 use Rattle.limbs.specs.Operations.{word_outcome}
 use Rattle.convert.specs.Convert.{to_fixnum_outcome}
 
@@ -45,44 +44,20 @@ from-word w x a = passed 1 _ a ∙ go (is_operand x) (fits 64 (value x)) refl
     go true false e = failed 6 (done (value x)) (no-fixnum w (value x) a e)
     go false b e = refl
 
--- an answer with the outcome o, by its refusal number and its value
-refused-narrowed : (w : ℕ) (o : Outcome ℤ) → ((number o).refusal ≡ 0 → ⊥) → number o ≡ number (narrowed w o)
-unfolding number narrowed
-refused-narrowed w (refused k detail) h = refl
-refused-narrowed w (done z) h = absurd (h refl)
+-- what the limbs x are as a word: none, or the number z
+module _ (w : ℕ) (x : List ℕ) (a : is_width w ≡ true) where
+  pub no_word : (k : Refusal) → outcome_of (Err k) ≡ word_outcome x → to_fixnum_outcome w x ≡ refuse (code_of k)
+  unfolding outcome_of narrowed
+  no_word k e = from-word w x a ∙ ap (narrowed w) (sym e)
 
-small-narrowed : (w : ℕ) (o : Outcome ℤ) → fits w (number o).value ≡ true → number o ≡ number (narrowed w o)
-unfolding number narrowed
-small-narrowed w (refused k detail) h = refl
-small-narrowed w (done z) h = sym (ap number (passed 6 (done z) h))
+  pub as_word : (z : ℤ) → outcome_of (Ok z) ≡ word_outcome x → to_fixnum_outcome w x ≡ guard (fits w z) 6 (done z)
+  unfolding outcome_of narrowed
+  as_word z e = from-word w x a ∙ ap (narrowed w) (sym e)
 
--- the value of a refused answer is 0, which fits
-large-narrowed : (w : ℕ) (o : Outcome ℤ) → fits w (number o).value ≡ false → narrowed w o ≡ refuse 6
-unfolding number narrowed fits
-large-narrowed w (refused k detail) h = absurd (true≢false (sym (lt-ltb 0 (2 ^ (w - 1)) (pow_pos (w - 1))) ∙ h))
-large-narrowed w (done z) h = failed 6 (done z) h
-
-word_bound : (x : List ℕ) → mag (number (word_outcome x)).value < 2 ^ 63
-unfolding word_outcome operand guard guard_at number
-word_bound x = go (is_operand x) (fits 64 (value x)) refl
-  where
-    go : (l b : Bool) → fits 64 (value x) ≡ b → mag (number (cond l (cond b (done (value x)) (refuse 6)) (refuse 7))).value < 2 ^ 63
-    go true true e = fits-mag 64 (value x) e
-    go true false e = pow_pos 63
-    go false b e = pow_pos 63
-
--- the answer r to the limbs x as a word
-module _ (w : ℕ) (x : List ℕ) (a : is_width w ≡ true) {r : Number} (e : r ≡ number (word_outcome x)) where
-  pub no_word : (r.refusal ≡ 0 → ⊥) → r ≡ number (to_fixnum_outcome w x)
-  no_word h = e ∙ refused-narrowed w (word_outcome x) (λ q. h (ap (λ (n : Number). n.refusal) e ∙ q)) ∙ sym (ap number (from-word w x a))
-
-  -- its value, as the test of a fixnum gets it
-  tested : fits w (to_z w64 (of_z w64 r.value)) ≡ fits w (number (word_outcome x)).value
-  tested = ap (λ (n : Number). fits w (to_z w64 (of_z w64 n.value))) e ∙ ap (fits w) (back-word (number (word_outcome x)).value (word_bound x))
-
-  module _ {t : Bool} (f : t ≡ fits w (to_z w64 (of_z w64 r.value))) where
-    pub large-word : {r' : Number} → not t ≡ true → r' ≡ number (refuse 6) → r' ≡ number (to_fixnum_outcome w x)
-    large-word h q = q ∙ sym (ap number (from-word w x a ∙ large-narrowed w (word_outcome x) (sym (f ∙ tested) ∙ not-true t h)))
-
-    pub small_word : not t ≡ false → r ≡ number (to_fixnum_outcome w x)
-    small_word h = e ∙ small-narrowed w (word_outcome x) (sym (f ∙ tested) ∙ not-false t h) ∙ sym (ap number (from-word w x a))
+-- as the test of a fixnum gets it
+pub word-tested : (x : List ℕ) (z : ℤ) → outcome_of (Ok z) ≡ word_outcome x → to_z w64 (of_z w64 z) ≡ z
+unfolding outcome_of word_outcome
+word-tested x z e =
+    let l = operand-legal x (guard (fits 64 (value x)) 6 (done (value x))) (sym e) in
+    let p = stage-passed (fits 64 (value x)) 6 (done (value x)) l.1 in
+    back-word z (fits-mag 64 z (ap (fits 64) (sym (done-injective p.1)) ∙ p.0))

@@ -1,12 +1,13 @@
 -- `convert::fixnum_to_limbs` meets its contract. Assumes nothing.
 use native.Mathlib.Omega.{arith}
-use mathlib.Core.Path.{◌≡◌, sym, ap, ◌∙◌}
+use mathlib.Core.Path.{◌≡◌, refl, sym, ap, ◌∙◌}
 use mathlib.Core.Bool.{true, not}
 use Rattle.bits.specs.Testbit.{fits}
 use Rattle.words.proofs.WordLaws.{back}
 use Rattle.fxtable.specs.Domains.{is_width}
 use Rattle.fxtable.proofs.CallLaws.{width-bounds}
 use Rattle.outcomes.specs.Outcome.{done}
+use Rattle.outcomes.specs.Refusal.{code_of}
 use Rattle.outcomes.proofs.OutcomeLaws.{passed, failed-by, passed-by}
 use Rattle.limbstages.proofs.WritesLaws.{writes-refused, writes_as}
 use Rattle.convert.specs.Convert.{to_limbs_outcome}
@@ -21,8 +22,8 @@ tested : (c : After-is_fixnum) → c.is_fixnum.result ≡ fits c.args.width c.ar
 tested c = c.is_fixnum.ensures ∙ ap (fits c.args.width) (back c.ranges.n)
 
 pub returns-then-not-is_width : goal.returns-then-not-is_width
-unfolding to_limbs_outcome
-returns-then-not-is_width c = writes-refused _ _ (failed-by 1 _ c.is_width.ensures (ap not c.if-not-is_width.true)) c.refuse.ensures
+unfolding to_limbs_outcome code_of
+returns-then-not-is_width c = writes-refused _ _ (failed-by 1 _ c.is_width.ensures (ap not c.if-not-is_width.true)) refl
 
 pub is_fixnum-requires : goal.is_fixnum-requires
 is_fixnum-requires c =
@@ -30,9 +31,9 @@ is_fixnum-requires c =
     (omega arith, omega arith)
 
 pub returns-then-not-is_fixnum : goal.returns-then-not-is_fixnum
-unfolding to_limbs_outcome
+unfolding to_limbs_outcome code_of
 returns-then-not-is_fixnum c =
-    writes-refused _ _ (passed 1 _ (width-ok (goal.at.returns-then-not-is_fixnum c).Else-not-is_width) ∙ failed-by 4 _ (tested (goal.at.returns-then-not-is_fixnum c).After-is_fixnum) (ap not c.if-not-is_fixnum.true)) c.refuse-then-not-is_fixnum.ensures
+    writes-refused _ _ (passed 1 _ (width-ok (goal.at.returns-then-not-is_fixnum c).Else-not-is_width) ∙ failed-by 4 _ (tested (goal.at.returns-then-not-is_fixnum c).After-is_fixnum) (ap not c.if-not-is_fixnum.true)) refl
 
 pub returns : goal.returns
 unfolding to_limbs_outcome
