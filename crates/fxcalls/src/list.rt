@@ -21,10 +21,7 @@ impl Call {
             return Some(Call::Reverse);
         }
         let count = word.strip_prefix(b"rot:")?;
-        match text::read_word(count) {
-            text::Reading::Number(count) => Some(Call::Rotate(count)),
-            _ => None,
-        }
+        text::read_word(count).ok().map(Call::Rotate)
     }
 
     fn read(line: Line, i: usize) -> Result<Call, Trouble> {
