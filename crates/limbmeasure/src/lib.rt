@@ -2,11 +2,11 @@
 // What a caller must show stands in `requires`: these functions are for `limbs` and `text`, which check operands and numbers.
 #![tactic(auto)]
 
-ghost use Rattle.std.specs.Prelude.{◌≡◌, ◌*◌, ◌≤◌, ◌<◌, ◌^◌, eqb, length};
+ghost use Rattle.std.specs.Prelude.{◌≡◌, ℕ, ℤ, ◌*◌, ◌≤◌, ◌<◌, ◌^◌, eqb, length};
 ghost use Rattle.bits.specs.Testbit.{bit_length};
 ghost use Rattle.bits.specs.Logical.{bitwise};
 ghost use Rattle.limbwords.specs.Value.{value, limb_count, is_shortest};
-ghost use Rattle.limbwords.specs.Results.{logic_of, meaning, Proper};
+ghost use Rattle.limbwords.specs.Results.{limb_at, logic_of, meaning, Proper};
 ghost use Rattle.limbmeasure.specs.Padding.{continued};
 
 use limbwords::any::limb_of;
@@ -33,82 +33,33 @@ pub fn is_shortest(x: &[u32]) -> bool
     n == 1 || !is_padding(x[n - 2], x[n - 1])
 }
 
-// The length of the shortest limbs with the value of x: a last limb that only continues the one below it can go.
+// The length of an integer's shortest form, from a number of limbs that is enough downwards: a last limb that only continues the one
+// below it can go. `limb` gives each limb.
+fn measure_by<F: Fn(usize) -> u32>(limb: F, enough: usize) -> usize
+    requires callable { (j : ℕ) → j < enough → F.pre limb j }
+    requires enough_nonzero { 0 < enough }
+    ensures { (z : ℤ) → ((j v : ℕ) → j < enough → F.post limb j v → v ≡ limb_at z j) → bit_length z < 32 * enough → result ≡ limb_count z }
+{
+    let mut high = limb(enough - 1);
+    for j in (0..enough - 1).rev() {
+        let low = limb(j);
+        if !is_padding(low, high) {
+            return j + 2;
+        }
+        high = low;
+    }
+    1
+}
+
+// The length of the shortest limbs with the value of x.
 pub fn shortest_length(x: &[u32]) -> usize
     requires { 0 < length x.now }
     ensures { result ≡ limb_count (value x.now) }
 {
-    let mut n = x.len();
-    while 1 < n && is_padding(x[n - 2], x[n - 1]) {
-        n -= 1;
-    }
-    n
+    measure_by(|j| x[j], x.len())
 }
 
-// The length of a result's shortest form, from a number of limbs that is enough downwards.
-fn measure_any(operation: Operation, x: &[u32], y: &[u32], z: &[u32], enough: usize) -> usize
-    requires x_nonzero { 0 < length x.now }
-    requires y_nonzero { 0 < length y.now }
-    requires z_nonzero { 0 < length z.now }
-    requires proper { Proper operation × ((0 < enough) × (enough < 2 ^ 32)) }
-    requires z_bound { bit_length (meaning operation (value x.now) (value y.now) (value z.now)) < 32 * enough }
-    ensures { result ≡ limb_count (meaning operation (value x.now) (value y.now) (value z.now)) }
-{
-    let mut n = enough;
-    let mut high = limb_of(operation, x, y, z, n - 1);
-    while 1 < n {
-        let low = limb_of(operation, x, y, z, n - 2);
-        if !is_padding(low, high) {
-            return n;
-        }
-        high = low;
-        n -= 1;
-    }
-    n
-}
-
-// The same for a logical operation, where both operands have so many limbs.
-fn measure_common(by: Logic, x: &[u32], y: &[u32], enough: usize) -> usize
-    requires enough_in_bounds { (enough ≤ length x.now) × (enough ≤ length y.now) }
-    requires enough_nonzero { 0 < enough }
-    requires y_bound { bit_length (bitwise (logic_of by) (value x.now) (value y.now)) < 32 * enough }
-    ensures { result ≡ limb_count (bitwise (logic_of by) (value x.now) (value y.now)) }
-{
-    let mut n = enough;
-    let mut high = common_limb(by, x, y, n - 1);
-    while 1 < n {
-        let low = common_limb(by, x, y, n - 2);
-        if !is_padding(low, high) {
-            return n;
-        }
-        high = low;
-        n -= 1;
-    }
-    n
-}
-
-// The same, where an operand may have fewer.
-fn measure_padded(by: Logic, x: &[u32], y: &[u32], enough: usize) -> usize
-    requires x_nonzero { 0 < length x.now }
-    requires y_nonzero { 0 < length y.now }
-    requires enough_nonzero { 0 < enough }
-    requires y_bound { bit_length (bitwise (logic_of by) (value x.now) (value y.now)) < 32 * enough }
-    ensures { result ≡ limb_count (bitwise (logic_of by) (value x.now) (value y.now)) }
-{
-    let mut n = enough;
-    let mut high = logical_limb(by, x, y, n - 1);
-    while 1 < n {
-        let low = logical_limb(by, x, y, n - 2);
-        if !is_padding(low, high) {
-            return n;
-        }
-        high = low;
-        n -= 1;
-    }
-    n
-}
-
-// The same for any operands.
+// The length of a logical operation's result. Limbs that both operands have are read without a test.
 fn measure_logical(by: Logic, x: &[u32], y: &[u32], enough: usize) -> usize
     requires x_nonzero { 0 < length x.now }
     requires y_nonzero { 0 < length y.now }
@@ -117,13 +68,13 @@ fn measure_logical(by: Logic, x: &[u32], y: &[u32], enough: usize) -> usize
     ensures { result ≡ limb_count (bitwise (logic_of by) (value x.now) (value y.now)) }
 {
     if enough <= x.len() && enough <= y.len() {
-        measure_common(by, x, y, enough)
+        measure_by(|j| common_limb(by, x, y, j), enough)
     } else {
-        measure_padded(by, x, y, enough)
+        measure_by(|j| logical_limb(by, x, y, j), enough)
     }
 }
 
-// The same for any operation; one limb is the least.
+// The length of any operation's result; one limb is the least.
 pub fn measure(operation: Operation, x: &[u32], y: &[u32], z: &[u32], enough: usize) -> usize
     requires x_nonzero { 0 < length x.now }
     requires y_nonzero { 0 < length y.now }
@@ -137,6 +88,6 @@ pub fn measure(operation: Operation, x: &[u32], y: &[u32], z: &[u32], enough: us
     }
     match operation {
         Operation::Logical(by) => measure_logical(by, x, y, enough),
-        _ => measure_any(operation, x, y, z, enough),
+        _ => measure_by(|j| limb_of(operation, x, y, z, j), enough),
     }
 }
