@@ -14,14 +14,21 @@ ghost use Rattle.rules.specs.Parse.{read_form};
 ghost use Rattle.rulevalues.specs.Evaluated.{told, Evaluates, Has};
 
 use fixnum::accepted::call_checked;
-use rulereader::{DEEPEST, Stored, read_rule, runs_at};
+use outcomes::refusal::Refusal;
+use rulereader::{DEEPEST, read_rule, runs_at};
 use rules::RuleAnswer;
 use rulevalues::{
-    Evaluated, bad_rule, evaluate_constant, evaluate_leaf, evaluated_call, rule_answer,
+    Refused, bad_rule, evaluate_constant, evaluate_leaf, evaluated_call, rule_answer,
 };
 
 // A call that ends before p, with the first n values for its arguments.
-fn evaluate_call(width: u64, code: u64, values: [i64; 4], n: u64, p: usize) -> Evaluated
+fn evaluate_call(
+    width: u64,
+    code: u64,
+    values: [i64; 4],
+    n: u64,
+    p: usize,
+) -> Result<(i64, usize), Refused>
     requires checked { Checked width code values n }
     requires code_value { has_two (row_of code).results ≡ false }
     ensures { result ≡ told p (result_of (answer_of width code (take n values))) }
@@ -30,7 +37,13 @@ fn evaluate_call(width: u64, code: u64, values: [i64; 4], n: u64, p: usize) -> E
 }
 
 // The form from `at` on, which may be nested `depth` deep and has been read before: its numbers, but for constants, are one byte each.
-fn evaluate_form(s: &[u8], at: usize, depth: u64, width: u64, inputs: &[i64]) -> Evaluated
+fn evaluate_form(
+    s: &[u8],
+    at: usize,
+    depth: u64,
+    width: u64,
+    inputs: &[i64],
+) -> Result<(i64, usize), Refused>
     requires has { Has (read_form depth (drop at s.now)) }
     requires width_value { (is_width width ≡ true) × (length inputs.now ≡ 16) }
     ensures { Evaluates width inputs.now s.now (read_form depth (drop at s.now)) result }
@@ -41,23 +54,17 @@ fn evaluate_form(s: &[u8], at: usize, depth: u64, width: u64, inputs: &[i64]) ->
     }
     let number = s[at + 1];
     if tag == 1 {
-        return evaluate_leaf(width, inputs[number as usize], at + 2);
+        return evaluate_leaf(width, inputs[usize::from(number)], at + 2);
     }
-    let n = s[at + 2] as usize;
+    let n = usize::from(s[at + 2]);
     let mut values = [0; 4];
     let mut p = at + 3;
-    let mut i = 0;
-    while i < n {
-        match evaluate_form(s, p, depth - 1, width, inputs) {
-            Evaluated::Value(z, q) => {
-                values[i] = z;
-                p = q;
-            }
-            Evaluated::Refused(k, place) => return Evaluated::Refused(k, place),
-        }
-        i += 1;
+    for i in 0..n {
+        let (value, end) = evaluate_form(s, p, depth - 1, width, inputs)?;
+        values[i] = value;
+        p = end;
     }
-    evaluate_call(width, number as u64, values, n as u64, p)
+    evaluate_call(width, u64::from(number), values, n as u64, p)
 }
 
 // A rule whose inputs are sixteen. Refusal 10, with its offset, for bytes that are no rule; else the first refusal that evaluation
@@ -67,10 +74,14 @@ fn evaluate_rule(rule: &[u8], inputs: &[i64]) -> RuleAnswer
     ensures { result ≡ rule_answer default_width rule.now inputs.now }
 {
     match read_rule(rule) {
-        Stored::Rule(width, at) => {
-            rule_answer(evaluate_form(rule, at, DEEPEST, runs_at(width), inputs))
-        }
-        Stored::Offends(o) => bad_rule(10, o as u64),
+        Ok(stored) => rule_answer(evaluate_form(
+            rule,
+            stored.form,
+            DEEPEST,
+            runs_at(stored.width),
+            inputs,
+        )),
+        Err(offence) => bad_rule(Refusal::BadRule, offence.offset),
     }
 }
 
@@ -88,6 +99,6 @@ pub fn evaluate_lent(rule: &[u8], inputs: &[i64]) -> RuleAnswer
     if inputs.len() == 16 {
         evaluate_rule(rule, inputs)
     } else {
-        bad_rule(3, 0)
+        bad_rule(Refusal::Count, 0)
     }
 }

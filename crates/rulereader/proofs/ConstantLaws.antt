@@ -1,7 +1,7 @@
 -- Constants, group by group, in positions. Assumes nothing.
 use Prim.Native.Nat.{ℕ, suc, ◌+◌, ◌-◌, ◌*◌, ◌^◌, ◌≤◌, ◌<◌}
 use native.Mathlib.Omega.{arith}
-use mathlib.Core.Path.{◌≡◌, refl, sym, ap, ◌∙◌}
+use mathlib.Core.Path.{◌≡◌, refl, ap, ◌∙◌}
 use mathlib.Core.Bool.{Bool, true, false, cond}
 use mathlib.Core.List.{List, ◌∷◌}
 use lib.Dec.{ltb, leb}
@@ -9,13 +9,15 @@ use lib.IntN.{ℤ, pos, negsuc}
 use lib.ListN.{length, drop, get_or, length-drop}
 use lib.Seq.{drop-length}
 use borrow.Author.Tests.{lt-ltb, le-ltb, lt-leb, le-leb, ltb-false, leb-true, leb-false}
+use Rattle.std.specs.Prelude.{Result, Ok, Err}
 use Rattle.bits.specs.Testbit.{fits}
 use Rattle.words.specs.Sign.{of_magnitude}
 use Rattle.rules.specs.Leb128.{Reading, got, offends, signed, join_z, of_last_z, is_last_z, decode, continued, shortest}
 use Rattle.rules.specs.Limits.{is_constant}
 use Rattle.rules.specs.Parse.{and_then}
+use Rattle.rulereader.specs.declared.Offence.{Offence}
 use Rattle.rulereader.specs.declared.constants.Groups.{Groups}
-use Rattle.rulereader.specs.Placed.{Offends, constant_from, joined_group, GroupsRead}
+use Rattle.rulereader.specs.Placed.{Offends, constant_from, offence, joined_group, GroupsRead}
 use Rattle.rulereader.proofs.CutLaws.{cons, before}
 
 -- ---- on integers, by sign and magnitude
@@ -47,28 +49,25 @@ join-large g (negsuc n) e = let l : 2 ^ 63 ≤ n = ltb-false n (2 ^ 63) e in le-
 
 -- ---- the three ways of a join
 
-module _ (start : ℕ) (negative : Bool) (n p g : ℕ) where
+module _ (start : ℕ) (a : Groups) (g : ℕ) where
   abbrev joined_magnitude : ℕ
-  joined_magnitude = n * 128 + cond negative (127 - g) g
+  joined_magnitude = a.magnitude * 128 + cond a.negative (127 - g) g
 
-  pub join-too-large : 2 ^ 56 ≤ n → Groups.Offends start ≡ joined_group start negative n p g
-  unfolding joined_group
-  join-too-large l = rw (le-leb (2 ^ 56) n l) refl
+  abbrev Kept : ℕ → Result Groups Offence
+  Kept m = Ok (record { negative = a.negative; magnitude = m; end = a.end })
 
-  pub join-padded : n < 2 ^ 56 → joined_magnitude < 64 → Groups.Offends start ≡ joined_group start negative n p g
+  pub join-too-large : 2 ^ 56 ≤ a.magnitude → joined_group start a g ≡ Err (offence start)
   unfolding joined_group
-  join-padded l h = rw (lt-leb (2 ^ 56) n l, lt-ltb joined_magnitude 64 h) refl
-
-  pub join_kept : n < 2 ^ 56 → 64 ≤ joined_magnitude → Groups.Value negative joined_magnitude p ≡ joined_group start negative n p g
-  unfolding joined_group
-  join_kept l h = rw (lt-leb (2 ^ 56) n l, le-ltb joined_magnitude 64 h) refl
+  join-too-large l = rw (le-leb (2 ^ 56) a.magnitude l) refl
 
   -- the same of a part r that is known to be the group's
-  pub part_padded : (r : ℕ) → r ≡ cond negative (127 - g) g → n < 2 ^ 56 → n * 128 + r < 64 → joined_group start negative n p g ≡ Groups.Offends start
-  part_padded r e l h = let f : joined_magnitude < 64 = rw e at h in sym (join-padded l f)
+  pub part_padded : (r : ℕ) → r ≡ cond a.negative (127 - g) g → a.magnitude < 2 ^ 56 → a.magnitude * 128 + r < 64 → joined_group start a g ≡ Err (offence start)
+  unfolding joined_group
+  part_padded r e l h = let f : joined_magnitude < 64 = rw e at h in rw (lt-leb (2 ^ 56) a.magnitude l, lt-ltb joined_magnitude 64 f) refl
 
-  pub part_kept : (r : ℕ) → r ≡ cond negative (127 - g) g → n < 2 ^ 56 → 64 ≤ n * 128 + r → joined_group start negative n p g ≡ Groups.Value negative (n * 128 + r) p
-  part_kept r e l h = let f : 64 ≤ joined_magnitude = rw e at h in rw e (sym (join_kept l f))
+  pub part_kept : (r : ℕ) → r ≡ cond a.negative (127 - g) g → a.magnitude < 2 ^ 56 → 64 ≤ a.magnitude * 128 + r → joined_group start a g ≡ Kept (a.magnitude * 128 + r)
+  unfolding joined_group
+  part_kept r e l h = let f : 64 ≤ joined_magnitude = rw e at h in rw (lt-leb (2 ^ 56) a.magnitude l, le-ltb joined_magnitude 64 f, e) refl
 
 -- ---- on readings
 
@@ -109,40 +108,40 @@ module _ (left : ℕ) where
   last-group k b t negative m l e h = rw (lt-ltb b 128 l, e, is-constant negative m, lt-ltb m (2 ^ 63) (omega arith)) refl
 
 -- what a join makes of an integer, as the code has it
-join-reading : (s : List ℕ) (start : ℕ) → start ≤ length s → (negative : Bool) (n p g : ℕ) → p ≤ length s → g < 128
-    → GroupsRead s (join_read (length (drop start s)) g (got (of_magnitude negative n) (drop p s))) (joined_group start negative n p g)
+join-reading : (s : List ℕ) (start : ℕ) → start ≤ length s → (a : Groups) (g : ℕ) → a.end ≤ length s → g < 128
+    → GroupsRead s (join_read (length (drop start s)) g (got (of_magnitude a.negative a.magnitude) (drop a.end s))) (joined_group start a g)
 unfolding join_read joined_group shortest signed and_then
-join-reading s start le negative n p g inside small = go (leb (2 ^ 56) n) refl (ltb m 64) refl
+join-reading s start le a g inside small = go (leb (2 ^ 56) a.magnitude) refl (ltb m 64) refl
   where
     m : ℕ
-    m = n * 128 + cond negative (127 - g) g
+    m = a.magnitude * 128 + cond a.negative (127 - g) g
 
     left : ℕ
     left = length (drop start s)
 
     R : Reading ℤ
-    R = tested left (shortest signed left (join_z g (of_magnitude negative n)) (drop p s))
+    R = tested left (shortest signed left (join_z g (of_magnitude a.negative a.magnitude)) (drop a.end s))
 
-    by-magnitude : R ≡ tested left (cond (ltb m 64) (offends left) (got (of_magnitude negative m) (drop p s)))
-    by-magnitude = rw (join-magnitude negative n g, is-last negative m) refl
+    by-magnitude : R ≡ tested left (cond (ltb m 64) (offends left) (got (of_magnitude a.negative m) (drop a.end s)))
+    by-magnitude = rw (join-magnitude a.negative a.magnitude g, is-last a.negative m) refl
 
     here : R ≡ offends left → Offends s R start
     here e = record { left = e ∙ ap offends (length-drop start s); inside = le }
 
-    go : (t : Bool) → leb (2 ^ 56) n ≡ t → (u : Bool) → ltb m 64 ≡ u
-        → GroupsRead s R (cond t (Groups.Offends start) (cond u (Groups.Offends start) (Groups.Value negative m p)))
+    go : (t : Bool) → leb (2 ^ 56) a.magnitude ≡ t → (u : Bool) → ltb m 64 ≡ u
+        → GroupsRead s R (cond t (Err (offence start)) (cond u (Err (offence start)) (Kept start a g m)))
     go t e true q = over t
       where
-        over : (t : Bool) → GroupsRead s R (cond t (Groups.Offends start) (Groups.Offends start))
+        over : (t : Bool) → GroupsRead s R (cond t (Err (offence start)) (Err (offence start)))
         over true = here (by-magnitude ∙ rw q refl)
         over false = here (by-magnitude ∙ rw q refl)
     go true e false q =
-        let l : 2 ^ 56 ≤ n = leb-true (2 ^ 56) n e in
-        here (by-magnitude ∙ rw (q, is-constant negative m, le-ltb m (2 ^ 63) (omega arith)) refl)
+        let l : 2 ^ 56 ≤ a.magnitude = leb-true (2 ^ 56) a.magnitude e in
+        here (by-magnitude ∙ rw (q, is-constant a.negative m, le-ltb m (2 ^ 63) (omega arith)) refl)
     go false e false q =
-        let l : n < 2 ^ 56 = leb-false (2 ^ 56) n e in
-        let low : m < 2 ^ 63 = omega (arith, part_small negative g small) in
-        (record { value = by-magnitude ∙ rw (q, is-constant negative m, lt-ltb m (2 ^ 63) low) refl; inside = inside }, low)
+        let l : a.magnitude < 2 ^ 56 = leb-false (2 ^ 56) a.magnitude e in
+        let low : m < 2 ^ 63 = omega (arith, part_small a.negative g small) in
+        (record { value = by-magnitude ∙ rw (q, is-constant a.negative m, lt-ltb m (2 ^ 63) low) refl; inside = inside }, low)
 
 -- ---- in positions
 
@@ -168,12 +167,12 @@ module _ (s : List ℕ) (start i k : ℕ) where
     by_first : Here ≡ constant_from (length (drop start s)) (suc (k - 1)) (b ∷ drop (i + 1) s)
     by_first = ap (λ (t : List ℕ). constant_from (length (drop start s)) k t) (cons s i h) ∙ ap (λ (j : ℕ). constant_from (length (drop start s)) j (b ∷ drop (i + 1) s)) (before f)
 
-    pub last_positive : b < 64 → GroupsRead s Here (Groups.Value false b (i + 1))
+    pub last_positive : b < 64 → GroupsRead s Here (Ok (record { negative = false; magnitude = b; end = i + 1 }))
     unfolding of_last_z of_magnitude
     last_positive l =
         (record { value = by_first ∙ last-group (length (drop start s)) (k - 1) b (drop (i + 1) s) false b (omega arith) (rw (lt-ltb b 64 l) refl) (omega arith); inside = omega arith }, omega arith)
 
-    pub last_negative : 64 ≤ b → b < 128 → GroupsRead s Here (Groups.Value true (127 - b) (i + 1))
+    pub last_negative : 64 ≤ b → b < 128 → GroupsRead s Here (Ok (record { negative = true; magnitude = 127 - b; end = i + 1 }))
     unfolding of_last_z of_magnitude
     last_negative l l' =
         (record { value = by_first ∙ last-group (length (drop start s)) (k - 1) b (drop (i + 1) s) true (127 - b) l' (rw (le-ltb b 64 l) refl) (omega arith); inside = omega arith }, omega arith)
@@ -186,6 +185,5 @@ module _ (s : List ℕ) (start i k : ℕ) where
       unfolding join_read
       tail-offends o m = record { left = by_next ∙ rw m.left refl; inside = m.inside }
 
-      pub joined : start ≤ length s → b < 256 → (negative : Bool) (n p : ℕ) → GroupsRead s Next (Groups.Value negative n p) → GroupsRead s Here (joined_group start negative n p (b - 128))
-      joined le small negative n p m =
-          rw (by_next, m.0.value) (join-reading s start le negative n p (b - 128) m.0.inside (omega arith))
+      pub joined : start ≤ length s → b < 256 → (a : Groups) → GroupsRead s Next (Ok a) → GroupsRead s Here (joined_group start a (b - 128))
+      joined le small a m = rw (by_next, m.0.value) (join-reading s start le a (b - 128) m.0.inside (omega arith))

@@ -3,12 +3,13 @@ use Prim.Native.Nat.{ℕ, zero, suc, ◌+◌, ◌-◌, ◌*◌, ◌≤◌, ◌<�
 use native.Mathlib.Omega.{arith}
 use native.Mathlib.Numerals.{add-one}
 use mathlib.Core.Path.{◌≡◌, refl, sym, ap, ◌∙◌}
-use mathlib.Core.Bool.{Bool, true, false, cond, true≢false}
+use mathlib.Core.Bool.{Bool, true, false, cond, ◌&&◌, true≢false}
 use mathlib.Core.List.{List, [], ◌∷◌}
-use lib.Dec.{ltb}
+use lib.Dec.{ltb, leb}
 use lib.ListN.{length, drop, get_or, length-drop}
 use lib.Seq.{drop-cons, drop-length}
-use borrow.Author.Tests.{lt-ltb, le-ltb, ltb-false}
+use borrow.Author.Tests.{lt-ltb, le-ltb, ltb-true, ltb-false, lt-leb, le-leb}
+use Rattle.std.specs.List.{list_all}
 use Rattle.rules.specs.Leb128.{Reading, got, offends, Groups, unsigned, decode, continued, shortest}
 use Rattle.rules.specs.Parse.{and_then, item, read_number}
 use Rattle.rulereader.specs.Placed.{At, Offends, cut_off, OneGroup, Small}
@@ -22,25 +23,24 @@ before {k} h = omega arith
 
 -- ---- whether a number is cut off
 
-module _ (s : List ℕ) (i k : ℕ) where
-  pub no-groups : k ≡ 0 → false ≡ cut_off k (drop i s)
-  unfolding cut_off
-  no-groups e = rw e refl
+and-false : (t : Bool) → (t && false) ≡ false
+and-false true = refl
+and-false false = refl
 
-  pub at-end : (k ≡ 0 → ⊥) → i ≡ length s → true ≡ cut_off k (drop i s)
-  unfolding cut_off
-  at-end f e = rw (before f, e, drop-length s) refl
+-- bytes that are all continued, and fewer than k
+pub cut_off_all : (k : ℕ) (s : List ℕ) → cut_off k s ≡ (ltb (length s) k && list_all (λ b. leb 128 b) s)
+unfolding cut_off
+cut_off_all zero s = rw (le-ltb (length s) 0 (omega arith)) refl
+cut_off_all (suc k) [] = rw (lt-ltb 0 (suc k) (omega arith)) refl
+cut_off_all (suc k) (b ∷ s) = go (ltb b 128) refl (cut_off_all k s)
+  where
+    same : ltb (suc (length s)) (suc k) ≡ ltb (length s) k
+    same = grind arith
 
-  module _ (f : k ≡ 0 → ⊥) (h : i < length s) where
-    one-step : cut_off k (drop i s) ≡ cond (ltb (get_or s i 0) 128) false (cut_off (k - 1) (drop (i + 1) s))
-    unfolding cut_off
-    one-step = rw (cons s i h) (ap (λ (j : ℕ). cut_off j (get_or s i 0 ∷ drop (i + 1) s)) (before f))
-
-    pub last-group : get_or s i 0 < 128 → false ≡ cut_off k (drop i s)
-    last-group l = rw (one-step, lt-ltb (get_or s i 0) 128 l) refl
-
-    pub next-group : 128 ≤ get_or s i 0 → cut_off (k - 1) (drop (i + 1) s) ≡ cut_off k (drop i s)
-    next-group l = rw (one-step, le-ltb (get_or s i 0) 128 l) refl
+    go : (t : Bool) → ltb b 128 ≡ t → cut_off k s ≡ (ltb (length s) k && list_all (λ b. leb 128 b) s)
+        → cond t false (cut_off k s) ≡ (ltb (suc (length s)) (suc k) && (leb 128 b && list_all (λ b. leb 128 b) s))
+    go true e h = rw (lt-leb 128 b (ltb-true b 128 e)) (sym (and-false (ltb (suc (length s)) (suc k))))
+    go false e h = rw (le-leb 128 b (ltb-false b 128 e), same) h
 
 -- ---- what decoding makes of it
 

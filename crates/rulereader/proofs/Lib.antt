@@ -1,3 +1,4 @@
+pub mod Exits
 pub mod CutLaws
 pub mod ConstantLaws
 pub mod HeadLaws

@@ -3,23 +3,18 @@ ghost use Rattle.std.specs.Prelude.{◌≡◌, ◌≤◌, ◌<◌, ◌-◌, cond
 ghost use Rattle.rules.specs.Parse.{read_constant};
 ghost use Rattle.rulereader.specs.Placed.{constant_from, joined_group, GroupsRead, ConstantRead};
 
+use super::Offence;
 use words::sign::from_magnitude;
 
 // 2^56: with a group before it, a magnitude from here on is that of no signed 64-bit number.
 const TOO_LARGE: u64 = 0x100000000000000;
 
-// An integer's sign, its magnitude, and where it ends; or where it offends.
-#[derive(Drop)]
-pub enum Groups {
-    Value(bool, u64, usize),
-    Offends(usize),
-}
-
-// A constant and where it ends, or where it offends.
-#[derive(Drop)]
-pub enum Constant {
-    Value(i64, usize),
-    Offends(usize),
+// An integer's sign, its magnitude, and where it ends.
+#[derive(Clone, Copy, Debug, PartialEq, Eq)]
+pub struct Groups {
+    pub negative: bool,
+    pub magnitude: u64,
+    pub end: usize,
 }
 
 // A group as a part of a magnitude: of a negative integer's, the complement.
@@ -30,60 +25,70 @@ fn part(negative: bool, g: u64) -> u64
     if negative { 127 - g } else { g }
 }
 
-// A group g before those of an integer that ends before p: the number begins at `start`.
+// A group g before those of an integer: the number begins at `start`.
 #[tactic(auto, using(crate::proofs::ConstantLaws::part_padded, crate::proofs::ConstantLaws::part_kept))]
-fn join(start: usize, negative: bool, n: u64, p: usize, g: u64) -> Groups
+fn join(start: usize, rest: Groups, g: u64) -> Result<Groups, Offence>
     requires { g < 128 }
-    ensures { result ≡ joined_group start negative n p g }
+    ensures { result ≡ joined_group start rest g }
 {
-    if TOO_LARGE <= n {
-        return Groups::Offends(start);
+    if TOO_LARGE <= rest.magnitude {
+        return Err(Offence { offset: start });
     }
-    let m = n * 128 + part(negative, g);
+    let m = rest.magnitude * 128 + part(rest.negative, g);
     if m < 64 {
-        Groups::Offends(start)
+        Err(Offence { offset: start })
     } else {
-        Groups::Value(negative, m, p)
+        Ok(Groups {
+            magnitude: m,
+            ..rest
+        })
     }
 }
 
 // At most k groups from `at` on, of an integer that begins at `start`.
-fn read_groups(s: &[u8], start: usize, at: usize, k: u64) -> Groups
+fn read_groups(s: &[u8], start: usize, at: usize, k: u64) -> Result<Groups, Offence>
     requires { (start ≤ length s.now) × (at ≤ length s.now) }
     ensures { GroupsRead s.now (constant_from (length (drop start s.now)) k (drop at s.now)) result }
 {
     if k == 0 {
-        return Groups::Offends(start);
+        return Err(Offence { offset: start });
     }
     if at == s.len() {
-        return Groups::Offends(at);
+        return Err(Offence { offset: at });
     }
-    let b = s[at] as u64;
+    let b = u64::from(s[at]);
     if b < 64 {
-        return Groups::Value(false, b, at + 1);
+        return Ok(Groups {
+            negative: false,
+            magnitude: b,
+            end: at + 1,
+        });
     }
     if b < 128 {
-        return Groups::Value(true, 127 - b, at + 1);
+        return Ok(Groups {
+            negative: true,
+            magnitude: 127 - b,
+            end: at + 1,
+        });
     }
-    match read_groups(s, start, at + 1, k - 1) {
-        Groups::Value(negative, n, p) => join(start, negative, n, p, b - 128),
-        Groups::Offends(o) => Groups::Offends(o),
-    }
+    let rest = read_groups(s, start, at + 1, k - 1)?;
+    join(start, rest, b - 128)
 }
 
-// The constant from `at` on. Most have one group.
-pub fn read_constant(s: &[u8], at: usize) -> Constant
+// The constant from `at` on, and where it ends. Most have one group.
+pub fn read_constant(s: &[u8], at: usize) -> Result<(i64, usize), Offence>
     requires { at ≤ length s.now }
     ensures { ConstantRead s.now (read_constant (drop at s.now)) result }
 {
     if at < s.len() {
         let b = s[at];
         if b < 64 {
-            return Constant::Value(b as i64, at + 1);
+            return Ok((i64::from(b), at + 1));
         }
     }
-    match read_groups(s, at, at, 10) {
-        Groups::Value(negative, n, p) => Constant::Value(from_magnitude(negative, n), p),
-        Groups::Offends(o) => Constant::Offends(o),
-    }
+    let groups = read_groups(s, at, at, 10)?;
+    Ok((
+        from_magnitude(groups.negative, groups.magnitude),
+        groups.end,
+    ))
 }

@@ -6,20 +6,20 @@ ghost use Rattle.rules.specs.Limits.{is_stored_code};
 ghost use Rattle.rules.specs.Parse.{after_tag, and_then, opens, read_head, read_number};
 ghost use Rattle.rulereader.specs.Placed.{HeadRead};
 
-use super::constants::{Constant, read_constant};
-use super::numbers::{Number, read_number};
+use super::Offence;
+use super::constants::read_constant;
+use super::numbers::read_number;
 use fxtable::table::{has_two_results, is_code, is_count};
 
 // How many inputs there are.
 pub const INPUTS: u64 = 16;
 
-// A constant, an input's index, or a call's code and argument count; and where it ends. Or where it offends.
-#[derive(Drop)]
+// A constant, an input by its index, or a call by its code and argument count.
+#[derive(Clone, Copy, Debug, PartialEq, Eq)]
 pub enum Head {
-    Constant(i64, usize),
-    Input(u64, usize),
-    Call(u64, u64, usize),
-    Offends(usize),
+    Constant(i64),
+    Input(u64),
+    Call { code: u64, count: u64 },
 }
 
 // Whether a rule may hold the code.
@@ -29,82 +29,60 @@ pub fn is_stored_code(code: u64) -> bool
     is_code(code) && !has_two_results(code)
 }
 
-fn constant_head(s: &[u8], at: usize) -> Head
+fn constant_head(s: &[u8], at: usize) -> Result<(Head, usize), Offence>
     requires { at ≤ length s.now }
     ensures { HeadRead s.now (after_tag 0 (drop at s.now)) result }
 {
-    match read_constant(s, at) {
-        Constant::Value(z, p) => Head::Constant(z, p),
-        Constant::Offends(o) => Head::Offends(o),
-    }
+    let (value, end) = read_constant(s, at)?;
+    Ok((Head::Constant(value), end))
 }
 
-fn input_head(s: &[u8], at: usize) -> Head
+fn input_head(s: &[u8], at: usize) -> Result<(Head, usize), Offence>
     requires { at ≤ length s.now }
     ensures { HeadRead s.now (after_tag 1 (drop at s.now)) result }
 {
-    match read_number(s, at) {
-        Number::Value(i) => {
-            if i < INPUTS {
-                Head::Input(i, at + 1)
-            } else {
-                Head::Offends(at)
-            }
-        }
-        Number::Offends(o) => Head::Offends(o),
+    let index = read_number(s, at)?;
+    if index < INPUTS {
+        Ok((Head::Input(index), at + 1))
+    } else {
+        Err(Offence { offset: at })
     }
 }
 
 // The argument count of a code.
-fn count_head(s: &[u8], code: u64, at: usize) -> Head
+fn count_head(s: &[u8], code: u64, at: usize) -> Result<(Head, usize), Offence>
     requires { at ≤ length s.now }
     ensures { HeadRead s.now (and_then (read_number (is_count code) (drop at s.now)) (λ n rest. got (opens code n) rest)) result }
 {
-    match read_number(s, at) {
-        Number::Value(n) => {
-            if is_count(code, n) {
-                Head::Call(code, n, at + 1)
-            } else {
-                Head::Offends(at)
-            }
-        }
-        Number::Offends(o) => Head::Offends(o),
+    let count = read_number(s, at)?;
+    if is_count(code, count) {
+        Ok((Head::Call { code, count }, at + 1))
+    } else {
+        Err(Offence { offset: at })
     }
 }
 
-fn call_head(s: &[u8], at: usize) -> Head
+fn call_head(s: &[u8], at: usize) -> Result<(Head, usize), Offence>
     requires { at ≤ length s.now }
     ensures { HeadRead s.now (after_tag 2 (drop at s.now)) result }
 {
-    match read_number(s, at) {
-        Number::Value(code) => {
-            if is_stored_code(code) {
-                count_head(s, code, at + 1)
-            } else {
-                Head::Offends(at)
-            }
-        }
-        Number::Offends(o) => Head::Offends(o),
+    let code = read_number(s, at)?;
+    if is_stored_code(code) {
+        count_head(s, code, at + 1)
+    } else {
+        Err(Offence { offset: at })
     }
 }
 
-// The head of the form from `at` on.
-pub fn read_head(s: &[u8], at: usize) -> Head
+// The head of the form from `at` on, and where it ends.
+pub fn read_head(s: &[u8], at: usize) -> Result<(Head, usize), Offence>
     requires { at ≤ length s.now }
     ensures { HeadRead s.now (read_head (drop at s.now)) result }
 {
-    match read_number(s, at) {
-        Number::Value(tag) => {
-            if tag == 0 {
-                constant_head(s, at + 1)
-            } else if tag == 1 {
-                input_head(s, at + 1)
-            } else if tag == 2 {
-                call_head(s, at + 1)
-            } else {
-                Head::Offends(at)
-            }
-        }
-        Number::Offends(o) => Head::Offends(o),
+    match read_number(s, at)? {
+        0 => constant_head(s, at + 1),
+        1 => input_head(s, at + 1),
+        2 => call_head(s, at + 1),
+        _ => Err(Offence { offset: at }),
     }
 }

@@ -13,9 +13,10 @@ pub mod forms;
 pub mod heads;
 pub mod numbers;
 
-use forms::{Place, read_one};
+use forms::read_one;
 use fxtable::width::is_width;
-use numbers::{Number, read_number};
+use numbers::read_number;
+use outcomes::refusal::Refusal;
 use rules::ReadAnswer;
 
 pub const LONGEST: usize = 4096;
@@ -25,11 +26,17 @@ pub const DEEPEST: u64 = 32;
 // What a stored width of 0 means.
 pub const DEFAULT_WIDTH: u64 = 30;
 
-// The stored width, and where the form begins; or where the earliest offending item does.
-#[derive(Drop)]
-pub enum Stored {
-    Rule(u64, usize),
-    Offends(usize),
+// Where the earliest offending item begins.
+#[derive(Clone, Copy, Debug, PartialEq, Eq)]
+pub struct Offence {
+    pub offset: usize,
+}
+
+// The stored width, and where the form begins.
+#[derive(Clone, Copy, Debug, PartialEq, Eq)]
+pub struct Stored {
+    pub width: u64,
+    pub form: usize,
 }
 
 pub fn is_stored_width(width: u64) -> bool
@@ -46,39 +53,31 @@ pub fn runs_at(width: u64) -> u64
 }
 
 // The form of a rule, and that nothing stands after it.
-fn read_last_form(s: &[u8], width: u64, at: usize) -> Stored
+fn read_last_form(s: &[u8], width: u64, at: usize) -> Result<Stored, Offence>
     requires { at ≤ length s.now }
     ensures { RuleRead s.now (whole (length s.now) (and_then (read_form deepest (drop at s.now)) (λ f rest. got (rule width f) rest))) result }
 {
-    match read_one(s, at, DEEPEST) {
-        Place::After(p) => {
-            if p == s.len() {
-                Stored::Rule(width, at)
-            } else {
-                Stored::Offends(p)
-            }
-        }
-        Place::Offends(o) => Stored::Offends(o),
+    let end = read_one(s, at, DEEPEST)?;
+    if end == s.len() {
+        Ok(Stored { width, form: at })
+    } else {
+        Err(Offence { offset: end })
     }
 }
 
 // A whole rule, of which nothing is run yet.
-pub fn read_rule(s: &[u8]) -> Stored
+pub fn read_rule(s: &[u8]) -> Result<Stored, Offence>
     ensures rule_read { RuleRead s.now (parse s.now) result }
     ensures stored_width { StoredWidth result }
 {
     if LONGEST < s.len() {
-        return Stored::Offends(LONGEST);
+        return Err(Offence { offset: LONGEST });
     }
-    match read_number(s, 0) {
-        Number::Value(width) => {
-            if is_stored_width(width) {
-                read_last_form(s, width, 1)
-            } else {
-                Stored::Offends(0)
-            }
-        }
-        Number::Offends(o) => Stored::Offends(o),
+    let width = read_number(s, 0)?;
+    if is_stored_width(width) {
+        read_last_form(s, width, 1)
+    } else {
+        Err(Offence { offset: 0 })
     }
 }
 
@@ -87,14 +86,14 @@ pub fn read(s: &[u8]) -> ReadAnswer
     ensures { result ≡ read_answer default_width s.now }
 {
     match read_rule(s) {
-        Stored::Rule(width, _) => ReadAnswer {
+        Ok(stored) => ReadAnswer {
             refusal: 0,
             offset: 0,
-            width: runs_at(width),
+            width: runs_at(stored.width),
         },
-        Stored::Offends(o) => ReadAnswer {
-            refusal: 10,
-            offset: o as u64,
+        Err(offence) => ReadAnswer {
+            refusal: u64::from(Refusal::BadRule),
+            offset: offence.offset as u64,
             width: 0,
         },
     }

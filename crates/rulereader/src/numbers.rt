@@ -3,48 +3,33 @@
 ghost use Rattle.std.specs.Prelude.{◌≡◌, ◌≤◌, length, drop};
 ghost use Rattle.rulereader.specs.Placed.{cut_off, NumberRead};
 
+use super::Offence;
+
 // One more than a group can be: added to each group of a number but the last.
 pub const CONTINUED: u8 = 128;
 
-// A number of one group, or where it offends.
-#[derive(Drop)]
-pub enum Number {
-    Value(u64),
-    Offends(usize),
-}
-
-// Whether the bytes from `at` on end before the last group of a number, with fewer than k groups.
-fn is_cut_off(s: &[u8], at: usize, k: u64) -> bool
-    requires { at ≤ length s.now }
-    ensures { result ≡ cut_off k (drop at s.now) }
+// Whether bytes end before the last group of a number, with fewer than k groups.
+fn is_cut_off(rest: &[u8], k: usize) -> bool
+    ensures { result ≡ cut_off k rest.now }
 {
-    if k == 0 {
-        return false;
-    }
-    if at == s.len() {
-        return true;
-    }
-    if s[at] < CONTINUED {
-        return false;
-    }
-    is_cut_off(s, at + 1, k - 1)
+    rest.len() < k && rest.iter().all(|b| CONTINUED <= *b)
 }
 
-// The number from `at` on.
-pub fn read_number(s: &[u8], at: usize) -> Number
+// The number of one group from `at` on.
+pub fn read_number(s: &[u8], at: usize) -> Result<u64, Offence>
     requires { at ≤ length s.now }
     ensures { NumberRead s.now at result }
 {
     if at == s.len() {
-        return Number::Offends(at);
+        return Err(Offence { offset: at });
     }
     let b = s[at];
     if b < CONTINUED {
-        return Number::Value(b as u64);
+        return Ok(u64::from(b));
     }
-    if is_cut_off(s, at + 1, 8) {
-        Number::Offends(s.len())
+    if is_cut_off(&s[at + 1..], 8) {
+        Err(Offence { offset: s.len() })
     } else {
-        Number::Offends(at)
+        Err(Offence { offset: at })
     }
 }

@@ -9,6 +9,7 @@ use lib.IntN.{ℤ}
 use lib.ListN.{length, drop, take}
 use lib.Seq.{length-take-le, take-take}
 use borrow.Author.Tests.{ne_eqb}
+use Rattle.std.specs.Prelude.{Ok, Err}
 use Rattle.bits.specs.Testbit.{fits}
 use Rattle.outcomes.specs.Outcome.{refused, guard, guard_at}
 use Rattle.fxtable.specs.declared.answer.Answer.{Answer}
@@ -22,24 +23,23 @@ use Rattle.rules.specs.Parse.{read_form, parse}
 use Rattle.rules.specs.Evaluate.{fixnum, result_of, runs_at}
 use Rattle.rules.specs.Answers.{default_width, bad_rule, evaluated, rule_answer, lent_answer}
 use Rattle.rulereader.specs.Placed.{Begins}
-use Rattle.rulevalues.specs.declared.Evaluated.{Evaluated}
-use Rattle.rulevalues.specs.Evaluated.{told, Evaluates, answered}
+use Rattle.rulevalues.specs.Evaluated.{Evaluated, refusing, told, Evaluates, answered}
 
 module _ (w : ℕ) (z : ℤ) (p : ℕ) where
-  pub leaf-value : (y : ℤ) → y ≡ z → fits w z ≡ true → Evaluated.Value y p ≡ told p (fixnum w z)
+  pub leaf-value : (y : ℤ) → y ≡ z → fits w z ≡ true → Ok (y, p) ≡ told p (fixnum w z)
   unfolding told fixnum guard guard_at
   leaf-value y e t = rw (t, e) refl
 
-  pub leaf-refused : fits w z ≡ false → Evaluated.Refused 4 0 ≡ told p (fixnum w z)
+  pub leaf-refused : fits w z ≡ false → Err (refusing 4 0) ≡ told p (fixnum w z)
   unfolding told fixnum guard guard_at
   leaf-refused t = rw t refl
 
 module _ (a : Answer) (p : ℕ) where
-  pub call-value : (y : ℤ) → y ≡ a.first → a.refusal ≡ 0 → Evaluated.Value y p ≡ told p (result_of a)
+  pub call-value : (y : ℤ) → y ≡ a.first → a.refusal ≡ 0 → Ok (y, p) ≡ told p (result_of a)
   unfolding told result_of
   call-value y f z = rw (z, f) refl
 
-  pub call-refused : (a.refusal ≡ 0 → ⊥) → Evaluated.Refused a.refusal a.place ≡ told p (result_of a)
+  pub call-refused : (a.refusal ≡ 0 → ⊥) → Err (refusing a.refusal a.place) ≡ told p (result_of a)
   unfolding told result_of
   call-refused f = rw (ne_eqb a.refusal 0 f) refl
 
@@ -79,5 +79,5 @@ module _ (s : List ℕ) (inputs : List ℤ) where
   pub rule-evaluated : (w p v : ℕ) (f : Form) → Begins s (parse s) w p f → v ≡ cond (eqb w 0) default_width w
       → (e : Evaluated) → Evaluates v inputs s (read_form deepest (drop p s)) e → answered e ≡ rule_answer default_width s inputs
   unfolding rule_answer evaluated runs_at answered
-  rule-evaluated w p v f b same (Evaluated.Value z q) h = rw (b.parsed, ← same, (h.1 f [] b.reads).0) refl
-  rule-evaluated w p v f b same (Evaluated.Refused k place) h = rw (b.parsed, ← same, h f [] b.reads) refl
+  rule-evaluated w p v f b same (Ok a) h = rw (b.parsed, ← same, (h.1 f [] b.reads).0) refl
+  rule-evaluated w p v f b same (Err e) h = rw (b.parsed, ← same, h f [] b.reads) refl

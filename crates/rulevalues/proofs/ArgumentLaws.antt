@@ -10,6 +10,7 @@ use lib.IntN.{ℤ, pos}
 use lib.ListN.{length, drop, take, get_or, set, length-set}
 use lib.Seq.{take-suc-set}
 use borrow.Author.Tests.{eqb-true, eqb-false, not-true}
+use Rattle.std.specs.Prelude.{Ok, Err}
 use Rattle.bits.specs.Testbit.{fits}
 use Rattle.bits.proofs.Booleans.{both_left, both_right}
 use Rattle.outcomes.specs.Outcome.{Outcome, refused, done, guard, guard_at, on_done}
@@ -28,8 +29,8 @@ use Rattle.rules.specs.Leb128.{Reading, got}
 use Rattle.rules.specs.Parse.{and_then, read_constant, read_forms, read_form}
 use Rattle.rules.specs.Evaluate.{fixnum, result_of, evaluate, evaluate_all}
 use Rattle.rules.proofs.EncodeParse.{parts}
-use Rattle.rulevalues.specs.declared.Evaluated.{Evaluated}
-use Rattle.rulevalues.specs.Evaluated.{told, Has, Evaluates, EvaluatesConstant}
+use Rattle.rulevalues.specs.declared.Refused.{Refused}
+use Rattle.rulevalues.specs.Evaluated.{Evaluated, told, Has, Evaluates, EvaluatesConstant}
 use Rattle.rulevalues.proofs.ReadAgain.{form-at, constant-at, input-at, CallAt, call_at}
 
 -- a constant or an input that is done is itself, and a fixnum
@@ -123,17 +124,14 @@ module _ (w : ℕ) (inputs : List ℤ) (s : List ℕ) (d : ℕ) (fs : Forms) (re
   loop-has : i < n → Has (read_form d (drop p s))
   loop-has l = first l (λ g m gs a b c. (g, m, a))
 
-  module _ (l : i < n) (m : Evaluated) (h : Evaluates w inputs s (read_form d (drop p s)) m) where
-    loop-refused : (k place : ℕ) → m ≡ Evaluated.Refused k place → evaluate_all w inputs fs ≡ refused k place
+  module _ (l : i < n) where
+    loop-refused : (e : Refused) → Evaluates w inputs s (read_form d (drop p s)) (Err e) → evaluate_all w inputs fs ≡ refused e.refusal e.place
     unfolding evaluate_all on_done
-    loop-refused k place e =
-        let g : Evaluates w inputs s (read_form d (drop p s)) (Evaluated.Refused k place) = rw e at h in
-        first l (λ f m' gs a b c. r.so_far ∙ rw (c, g f m' a) refl)
+    loop-refused e g = first l (λ f m gs a b c. r.so_far ∙ rw (c, g f m a) refl)
 
-    loop-step : (z : ℤ) (q : ℕ) → m ≡ Evaluated.Value z q → (y : ℤ) → y ≡ z → i < 4 → Remaining w inputs s d fs rest n (i + 1) q (set values i y)
+    loop-step : (z : ℤ) (q : ℕ) → Evaluates w inputs s (read_form d (drop p s)) (Ok (z, q)) → (y : ℤ) → y ≡ z → i < 4 → Remaining w inputs s d fs rest n (i + 1) q (set values i y)
     unfolding evaluate_all on_done
-    loop-step z q e y same room =
-        let g : Evaluates w inputs s (read_form d (drop p s)) (Evaluated.Value z q) = rw e at h in
+    loop-step z q g y same room =
         first l (λ f m' gs a b c.
         let v = g.1 f m' a in
         let four : length values ≡ 4 = r.slots in
@@ -172,14 +170,14 @@ module _ (w : ℕ) (inputs : List ℤ) (s : List ℕ) (i d : ℕ) where
 
   pub is-constant : get_or s i 0 ≡ 0 → (e : Evaluated) → EvaluatesConstant w s (read_constant (drop (i + 1) s)) e → Evaluates w inputs s ReadAt e
   unfolding evaluate
-  is-constant t (Evaluated.Value z p) h = (
+  is-constant t (Ok a) h = (
     h.0,
     λ f rest q.
         let c = constant-at (form-at d s i f rest q) t in
         let g = h.1 c.value rest c.reads in
         (rw c.is g.0, g.1),
   )
-  is-constant t (Evaluated.Refused k place) h = λ f rest q.
+  is-constant t (Err e) h = λ f rest q.
       let c = constant-at (form-at d s i f rest q) t in
       rw c.is (h c.value rest c.reads)
 
@@ -235,26 +233,27 @@ module _ (w : ℕ) (inputs : List ℤ) (s : List ℕ) (i d : ℕ) where
 
 -- ---- a call, argument by argument
 
-module _ (w : ℕ) (inputs : List ℤ) (s : List ℕ) (at d code n i p : ℕ) (values : List ℤ) (l : Looping w inputs s at d code n i p values) where
+module _ {w : ℕ} {inputs : List ℤ} {s : List ℕ} {at d code n i p : ℕ} {values : List ℤ} (l : Looping w inputs s at d code n i p values) where
   pub next-has : i < n → Has (read_form (d - 1) (drop p s))
   next-has h = loop-has w inputs s (d - 1) l.args l.rest n i p values l.remaining h
 
-  module _ (h : i < n) (m : Evaluated) (e : Evaluates w inputs s (read_form (d - 1) (drop p s)) m) where
-    pub next-value : (z : ℤ) (q : ℕ) → m ≡ Evaluated.Value z q → (y : ℤ) → y ≡ z → i < 4 → Looping w inputs s at d code n (i + 1) q (set values i y)
-    next-value z q t y same room = record {
+  module _ (h : i < n) where
+    pub next-value : (z : ℤ) (q : ℕ) → Evaluates w inputs s (read_form (d - 1) (drop p s)) (Ok (z, q)) → (y : ℤ) → y ≡ z → i < 4
+        → Looping w inputs s at d code n (i + 1) q (set values i y)
+    next-value z q e y same room = record {
       args = l.args;
       stored = l.stored;
       counts = l.counts;
       rest = l.rest;
       whole = l.whole;
-      remaining = loop-step w inputs s (d - 1) l.args l.rest n i p values l.remaining h m e z q t y same room;
+      remaining = loop-step w inputs s (d - 1) l.args l.rest n i p values l.remaining h z q e y same room;
     }
 
-    pub next-refused : (k place : ℕ) → m ≡ Evaluated.Refused k place → Evaluates w inputs s (read_form d (drop at s)) (Evaluated.Refused k place)
+    pub next-refused : (e : Refused) → Evaluates w inputs s (read_form (d - 1) (drop p s)) (Err e) → Evaluates w inputs s (read_form d (drop at s)) (Err e)
     unfolding evaluate on_done
-    next-refused k place t = λ f rest q.
+    next-refused e g = λ f rest q.
         let f' : f ≡ call code l.args = cc l.whole in
-        rw (f', loop-refused w inputs s (d - 1) l.args l.rest n i p values l.remaining h m e k place t) refl
+        rw (f', loop-refused w inputs s (d - 1) l.args l.rest n i p values l.remaining h e g) refl
 
   pub all-evaluated : n ≤ i → Evaluates w inputs s (read_form d (drop at s)) (told p (result_of (answer_of w code (take n values))))
   unfolding evaluate on_done

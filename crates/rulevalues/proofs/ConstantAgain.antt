@@ -9,6 +9,7 @@ use lib.IntN.{ℤ, pos}
 use lib.ListN.{length, drop, get_or, drop_of_length-le}
 use lib.Pow.{pow_mono}
 use borrow.Author.Tests.{ltb-true, ltb-false, lt-ltb}
+use Rattle.std.specs.Prelude.{Result, Ok, Err, IsOk}
 use Rattle.bits.specs.Testbit.{fits}
 use Rattle.words.specs.Sign.{of_magnitude}
 use Rattle.outcomes.specs.Outcome.{Outcome, refused, done, guard, guard_at}
@@ -18,10 +19,9 @@ use Rattle.rules.specs.Leb128.{Reading, got, offends, decode}
 use Rattle.rules.specs.Parse.{and_then, item, read_constant}
 use Rattle.rules.specs.Evaluate.{fixnum}
 use Rattle.rules.proofs.Leb128Laws.{offends-got}
-use Rattle.rulereader.specs.declared.constants.Constant.{Constant}
-use Rattle.rulereader.specs.Placed.{At, Offends, ConstantRead, constant_from}
+use Rattle.rulereader.specs.declared.Offence.{Offence}
+use Rattle.rulereader.specs.Placed.{At, ConstantRead, constant_from}
 use Rattle.rulereader.proofs.ConstantLaws.{last_positive}
-use Rattle.rulevalues.specs.declared.Evaluated.{Evaluated}
 use Rattle.rulevalues.specs.Evaluated.{told, Has, EvaluatesConstant}
 
 pub constant-inside : (s : List ℕ) (i : ℕ) → Has (read_constant (drop i s)) → i < length s
@@ -50,17 +50,16 @@ module _ (w : ℕ) (s : List ℕ) (i : ℕ) where
       rw (lt-ltb b (2 ^ (w - 1)) (omega (arith, room))) refl
 
   pub small-constant : is_width w ≡ true → i < length s → get_or s i 0 < 64 → (y : ℤ) → y ≡ pos (get_or s i 0)
-      → EvaluatesConstant w s (read_constant (drop i s)) (Evaluated.Value y (i + 1))
+      → EvaluatesConstant w s (read_constant (drop i s)) (Ok (y, i + 1))
   unfolding told item constant_from of_magnitude
   small-constant h inside l y same =
       let r : read_constant (drop i s) ≡ got (pos (get_or s i 0)) (drop (i + 1) s) = (last_positive s i i 10 (λ z. absurd (omega arith)) inside l).0.value in
       tells w s (read_constant (drop i s)) (pos (get_or s i 0)) (i + 1) (done y) (omega arith) r (small-fits h (get_or s i 0) l ∙ ap done (sym same))
 
-  module _ (m : Constant) (h : ConstantRead s (read_constant (drop i s)) m) where
-    pub constant-evaluated : (z : ℤ) (p : ℕ) → m ≡ Constant.Value z p → EvaluatesConstant w s (read_constant (drop i s)) (told p (fixnum w z))
-    constant-evaluated z p e =
-        let a : At s (read_constant (drop i s)) z p = rw e at h in
-        tells w s (read_constant (drop i s)) z p (fixnum w z) a.inside a.value refl
+  pub constant-evaluated : (z : ℤ) (p : ℕ) → At s (read_constant (drop i s)) z p → EvaluatesConstant w s (read_constant (drop i s)) (told p (fixnum w z))
+  constant-evaluated z p a = tells w s (read_constant (drop i s)) z p (fixnum w z) a.inside a.value refl
 
-    pub no-constant : (o : ℕ) → m ≡ Constant.Offends o → EvaluatesConstant w s (read_constant (drop i s)) (Evaluated.Refused 10 0)
-    no-constant o e = λ z rest q. let a : Offends s (read_constant (drop i s)) o = rw e at h in offends-got (sym a.left ∙ q)
+  -- a constant that was read does not offend
+  pub is_ok : Has (read_constant (drop i s)) → (m : Result (ℤ × ℕ) Offence) → ConstantRead s (read_constant (drop i s)) m → IsOk m
+  is_ok h (Ok a) r = refl
+  is_ok h (Err e) r = offends-got (sym r.left ∙ h.2)

@@ -1,5 +1,4 @@
--- `ruleevaluator::evaluate_form` ends: the depth falls, and in its loop the arguments that are left get fewer. What the loop keeps. Assumes nothing.
-use Prim.Native.Nat.{◌-◌}
+-- `ruleevaluator::evaluate_form` ends: the depth falls. What its loop keeps. Assumes nothing.
 use Rattle.rulevalues.proofs.ArgumentLaws.{Looping}
 use Rattle.ruleevaluator.proofs.+evaluate_form.Given as goal
 
@@ -8,6 +7,3 @@ decreases-evaluate_form l = l.depth
 
 abbrev pub invariant-loop-i : goal.invariant-loop-i
 invariant-loop-i l = Looping l.width l.inputs l.s l.at l.depth l.number l.n l.i l.p l.values
-
-abbrev pub decreases-loop-i : goal.decreases-loop-i
-decreases-loop-i l = l.n - l.i

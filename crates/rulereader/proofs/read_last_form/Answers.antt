@@ -1,18 +1,13 @@
 -- `rulereader::read_last_form` meets its contract. Assumes nothing.
+use Rattle.rulereader.proofs.Exits.{err_of}
 use Rattle.rulereader.proofs.FormLaws.{all_read, more_left, form-offends}
 use Rattle.rulereader.proofs.read_last_form.Goals as goal
 
-pub returns-then-p-s : goal.returns-then-p-s
-returns-then-p-s c =
-    let a = c.args in
-    all_read a.s.now a.width a.at c.requires c.read_one.result c.read_one.ensures c.in-After.p c.in-After.is c.if-p-s.true
+pub returns-in_err-end : goal.returns-in_err-end
+returns-in_err-end c = rw (err_of _ _ c.from_residual.ensures.1) (form-offends c.args.s.now c.args.width c.args.at c.requires _ c.in_err-end.ensures)
 
-pub returns-else-p-s : goal.returns-else-p-s
-returns-else-p-s c =
-    let a = c.args in
-    more_left a.s.now a.width a.at c.requires c.read_one.result c.read_one.ensures c.in-After.p c.in-After.is c.if-p-s.false
+pub returns-then-end-s : goal.returns-then-end-s
+returns-then-end-s c = all_read c.args.s.now c.args.width c.args.at c.requires _ c.in_ok-end.ensures c.if-end-s.true
 
-pub returns-in-Offends : goal.returns-in-Offends
-returns-in-Offends c =
-    let a = c.args in
-    form-offends a.s.now a.width a.at c.requires c.read_one.result c.read_one.ensures c.in-Offends.o c.in-Offends.is
+pub returns-else-end-s : goal.returns-else-end-s
+returns-else-end-s c = more_left c.args.s.now c.args.width c.args.at c.requires _ c.in_ok-end.ensures c.if-end-s.false

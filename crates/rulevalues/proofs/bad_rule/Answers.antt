@@ -1,8 +1,7 @@
 -- `rulevalues::bad_rule` meets its contract. Assumes nothing.
-use mathlib.Core.Path.{refl}
 use Rattle.rules.specs.Answers.{bad_rule}
 use Rattle.rulevalues.proofs.bad_rule.Goals as goal
 
 pub returns : goal.returns
 unfolding bad_rule
-returns c = refl
+returns c = rw c.from.ensures

@@ -7,12 +7,12 @@ use Rattle.rules.specs.Answers.{value_of}
 use Rattle.rulevalues.specs.Evaluated.{answered}
 use Rattle.rulevalues.proofs.rule_answer.Goals as goal
 
-pub returns-in-Value : goal.returns-in-Value
+pub returns-in-Ok : goal.returns-in-Ok
 unfolding answered value_of
-returns-in-Value c =
-    let fits : SFits w64 c.in-Value.z = search rules in
-    rw (to_z-of_z w64 c.in-Value.z fits, c.in-Value.is)
+returns-in-Ok c =
+    let fits : SFits w64 c.in-Ok.value = search rules in
+    rw (to_z-of_z w64 c.in-Ok.value fits, c.in-Ok.is)
 
-pub returns-in-Refused : goal.returns-in-Refused
+pub returns-in-Err : goal.returns-in-Err
 unfolding answered value_of
-returns-in-Refused c = rw c.in-Refused.is
+returns-in-Err c = rw c.in-Err.is

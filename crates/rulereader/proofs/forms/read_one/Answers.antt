@@ -3,6 +3,4 @@ use Rattle.rulereader.proofs.FormLaws.{only-form}
 use Rattle.rulereader.proofs.forms.read_one.Goals as goal
 
 pub returns : goal.returns
-returns c =
-    let a = c.args in
-    only-form a.s.now a.at a.depth c.read_forms.result c.read_forms.ensures
+returns c = only-form c.args.s.now c.args.at c.args.depth _ c.read_forms.ensures

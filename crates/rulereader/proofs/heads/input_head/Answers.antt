@@ -1,18 +1,13 @@
 -- `rulereader::heads::input_head` meets its contract. Assumes nothing.
+use Rattle.rulereader.proofs.Exits.{err_of}
 use Rattle.rulereader.proofs.HeadLaws.{input-read, input-fails, input-offends}
 use Rattle.rulereader.proofs.heads.input_head.Goals as goal
 
-pub returns-then-i-lt-INPUTS : goal.returns-then-i-lt-INPUTS
-returns-then-i-lt-INPUTS c =
-    let a = c.args in
-    input-read a.s.now a.at c.read_number.result c.read_number.ensures c.in-Value.i c.in-Value.is c.if-i-lt-INPUTS.true
+pub returns-in_err-index : goal.returns-in_err-index
+returns-in_err-index c = rw (err_of _ _ c.from_residual.ensures.1) (input-offends c.args.s.now c.args.at _ c.in_err-index.ensures)
 
-pub returns-else-i-lt-INPUTS : goal.returns-else-i-lt-INPUTS
-returns-else-i-lt-INPUTS c =
-    let a = c.args in
-    input-fails a.s.now a.at c.read_number.result c.read_number.ensures c.in-Value.i c.in-Value.is c.if-i-lt-INPUTS.false
+pub returns-then-index-lt-INPUTS : goal.returns-then-index-lt-INPUTS
+returns-then-index-lt-INPUTS c = input-read c.args.s.now c.args.at _ c.in_ok-index.ensures c.if-index-lt-INPUTS.true
 
-pub returns-in-Offends : goal.returns-in-Offends
-returns-in-Offends c =
-    let a = c.args in
-    input-offends a.s.now a.at c.read_number.result c.read_number.ensures c.in-Offends.o c.in-Offends.is
+pub returns-else-index-lt-INPUTS : goal.returns-else-index-lt-INPUTS
+returns-else-index-lt-INPUTS c = input-fails c.args.s.now c.args.at _ c.in_ok-index.ensures c.if-index-lt-INPUTS.false
