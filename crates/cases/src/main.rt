@@ -1,70 +1,62 @@
 // The cases that document 01 has a program run: each line has a call and its answer.
 #![tactic(auto)]
 
-use output::{put, put_decimal, put_natural};
+use outcomes::refusal::Refusal;
+use std::fmt;
 
-fn put_shift(x: i64, distance: i64, text: &mut [u8], at: usize) -> usize {
-    let at = put(b": shift ", text, at);
-    let at = put_decimal(x, text, at);
-    let at = put(b" by ", text, at);
-    put_decimal(distance, text, at)
-}
+// The integer that a call has answered, or the number of its refusal.
+#[derive(Clone, Copy)]
+struct Reply(Result<i64, u64>);
 
-// A refusal, or an integer where the refusal is 0.
-fn put_answer(refusal: u64, n: i64, text: &mut [u8], at: usize) -> usize {
-    if refusal == 0 {
-        let at = put(b" is ", text, at);
-        return put_decimal(n, text, at);
+impl fmt::Display for Reply {
+    fn fmt<W: fmt::Write>(&self, f: &mut fmt::Formatter<W>) -> fmt::Result {
+        match self.0 {
+            Ok(n) => write!(f, "is {n}"),
+            Err(refusal) => write!(f, "is refused {refusal}"),
+        }
     }
-    let at = put(b" is refused ", text, at);
-    put_natural(refusal, text, at)
-}
-
-fn write_line(rt: &impl Print, text: &mut [u8], at: usize) {
-    let n = put(b"\n", text, at);
-    let _ = rt.write_all(&text[..n]);
 }
 
 fn shift_fixnum(rt: &impl Print, width: u64, x: i64, distance: i64) {
-    let mut text = [0u8; 128];
-    let at = put(b"fixnum, width ", &mut text, 0);
-    let at = put_natural(width, &mut text, at);
-    let at = put_shift(x, distance, &mut text, at);
     let answer = fixnum::call(width, 37, [x, distance, 0, 0], 2);
-    let at = put_answer(answer.refusal, answer.first, &mut text, at);
-    write_line(rt, &mut text, at);
+    let reply = Reply(match answer.refusal {
+        0 => Ok(answer.first),
+        refusal => Err(refusal),
+    });
+    let _ = println!(rt; "fixnum, width {width}: shift {x} by {distance} {reply}");
 }
 
-// The limbs of a result are printed as the integer that they are. A refused call has written none.
+// The integer of the limbs that are written.
+fn shifted(x: &[u32], distance: i64, out: &mut [u32]) -> Result<i64, Refusal> {
+    let n = limbs::bitwise_shift(x, distance, out, 0)?;
+    limbs::to_word(&out[..n])
+}
+
 fn shift_limbs(rt: &impl Print, x: &[u32], distance: i64, out: &mut [u32]) {
-    let mut text = [0u8; 128];
-    let at = put(b"limbs, capacity ", &mut text, 0);
-    let at = put_natural(out.len() as u64, &mut text, at);
-    let at = put_shift(limbs::to_word(x).value, distance, &mut text, at);
-    let answer = limbs::bitwise_shift(x, distance, out, 0);
-    let n = answer.length as usize;
-    let at = put_answer(
-        answer.refusal,
-        limbs::to_word(&out[..n]).value,
-        &mut text,
-        at,
-    );
-    write_line(rt, &mut text, at);
+    let capacity = out.len();
+    let n = limbs::to_word(x).unwrap_or(0);
+    let reply = Reply(shifted(x, distance, out).map_err(u64::from));
+    let _ = println!(rt; "limbs, capacity {capacity}: shift {n} by {distance} {reply}");
 }
 
 fn main(rt: HostRuntime) {
-    shift_fixnum(&rt, 24, 1, 22);
-    shift_fixnum(&rt, 24, 1, 23);
-    shift_fixnum(&rt, 24, 1, 24);
-    shift_fixnum(&rt, 24, -1, 23);
-    shift_fixnum(&rt, 23, 1, 22);
-    shift_fixnum(&rt, 65, 1, 22);
-    shift_fixnum(&rt, 64, 1, 63);
-    shift_fixnum(&rt, 64, -1, 63);
+    let fixnums = [
+        (24, 1, 22),
+        (24, 1, 23),
+        (24, 1, 24),
+        (24, -1, 23),
+        (23, 1, 22),
+        (65, 1, 22),
+        (64, 1, 63),
+        (64, -1, 63),
+    ];
+    for (width, x, distance) in fixnums {
+        shift_fixnum(&rt, width, x, distance);
+    }
     let mut one = [7u32];
     let mut two = [7u32, 7];
     shift_limbs(&rt, &[1], 32, &mut one);
     shift_limbs(&rt, &[1], 32, &mut two);
-    shift_limbs(&rt, &[0], 0x7FFF_FFFF_FFFF_FFFF, &mut one);
-    shift_limbs(&rt, &[0xFFFF_FFFB], -0x8000_0000_0000_0000, &mut one);
+    shift_limbs(&rt, &[0], i64::MAX, &mut one);
+    shift_limbs(&rt, &[0xFFFF_FFFB], i64::MIN, &mut one);
 }
