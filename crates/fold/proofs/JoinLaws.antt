@@ -2,13 +2,13 @@
 use Prim.Native.Nat.{ℕ, ◌*◌, ◌-◌, ◌≤◌}
 use native.Mathlib.Omega.{arith}
 use mathlib.Core.Path.{◌≡◌, refl, ap, subst₂, ◌∙◌}
-use mathlib.Core.Bool.{true, false}
+use mathlib.Core.Bool.{true, false, xor}
 use mathlib.Core.List.{[], ◌∷◌}
 use lib.IntN.{ℤ, pos, nat_abs}
 use Rattle.bits.specs.Testbit.{fits}
 use Rattle.bits.specs.Logical.{bitwise_xor}
 use Rattle.bits.specs.Field.{permute_field, rotate_bit_field}
-use Rattle.bits.proofs.FitsLaws.{set_field-fits}
+use Rattle.bits.proofs.FitsLaws.{bitwise-fits, set_field-fits}
 use Rattle.bits.proofs.RotationCounts.{reduced-le}
 use Rattle.outcomes.specs.Outcome.{refused, done, guard_at}
 use Rattle.outcomes.specs.Tests.{all_hold, first_failed_from, first_failed, guard_each}
@@ -16,6 +16,7 @@ use Rattle.outcomes.proofs.OutcomeLaws.{passed}
 use Rattle.fxtable.specs.declared.answer.Answer.{Answer}
 use Rattle.fxtable.specs.Table.{rows, is_code, row_of}
 use Rattle.fxtable.specs.Calls.{answer, counted, is_count, fixnum_tests, fixnum_answer, answer_of}
+use Rattle.fxtable.proofs.CallLaws.{width-bounds}
 use Rattle.fixnum_laws.proofs.AnswerLaws.{count-done, rotate-answer}
 use Rattle.fold.specs.declared.Fold.{Fold}
 use Rattle.fold.specs.Fold.{with_accumulator, is_open}
@@ -48,6 +49,11 @@ module _ (f : Fold) where
     other_fits c =
         let o = open-field f h in
         set_field-fits f.width (omega (arith, o.below)) f.accumulator (nat_abs f.start) (nat_abs f.end) (omega (arith, o.below)) _ o.fixnum
+
+    -- the accumulator rotated by another count, and xored with a fixnum
+    pub joined-fits : (c : ℕ) (y : ℤ) → fits f.width y ≡ true → fits f.width (bitwise_xor (rotated_by c) y) ≡ true
+    unfolding bitwise_xor
+    joined-fits c y k = bitwise-fits f.width (omega (arith, width-bounds f.width (open-width f h))) xor (rotated_by c) y (other_fits c) k
 
     -- code 28 where its second argument is no fixnum
     second-no-fixnum : (x y : ℤ) → fits f.width x ≡ true → fits f.width y ≡ false → answer_of f.width 28 (x ∷ y ∷ []) ≡ answer (refused 4 2)

@@ -1,4 +1,5 @@
 pub mod OpenLaws
+pub mod RecordLaws
 pub mod CallLaws
 pub mod JoinLaws
 pub mod IntegerFold

@@ -77,7 +77,7 @@ open-field f h =
       fixnum = arguments.fixnum-at a 0 (omega arith);
     }
 
-open-rotation : (f : Fold) → is_open f ≡ true → rotation f ≡ answer (done (rotated f, pos 0))
+pub open-rotation : (f : Fold) → is_open f ≡ true → rotation f ≡ answer (done (rotated f, pos 0))
 unfolding rotation answer_of counted rows row_of results_of arg
 open-rotation f h = done-answer f.width 40 (fields f) 4 (open_done f h)
 
@@ -114,7 +114,7 @@ open-xor f h x y d e =
 -- ---- a byte
 
 module _ (f : Fold) (h : is_open f ≡ true) (b : ℕ) (l : b < 256) where
-  byte_fits : fits f.width (pos b) ≡ true
+  pub byte_fits : fits f.width (pos b) ≡ true
   unfolding fits
   byte_fits = lt-ltb b (2 ^ (f.width - 1)) (lt_of_lt_of_le l (pow_mono {i = 8} (omega (arith, width-bounds f.width (open-width f h)))))
 

@@ -1,32 +1,29 @@
 // One byte, folded into a record that is open: nothing is checked, and no code is looked up.
 ghost use Rattle.std.specs.Prelude.{◌≡◌, true, ◌-◌, ◌≤◌, pos, nat_abs};
+ghost use Rattle.bits.specs.Testbit.{fits};
 ghost use Rattle.bits.specs.Field.{rotate_bit_field};
 ghost use Rattle.bits.specs.Logical.{bitwise_xor};
-ghost use Rattle.fold.specs.Fold.{with_accumulator, is_open, fold_byte};
+ghost use Rattle.fold.specs.Fold.{with_accumulator, fold_byte};
 
-use super::Fold;
+use super::record::Open;
 use words::logical::xor;
 use words::rotation::rotate_bit_field;
-use words::sign::absolute;
 
-// The accumulator rotated in its field by a count, and then xored with a number.
-pub fn rotate_and_xor(f: Fold, count: u64, y: i64) -> Fold
-    requires { (is_open f ≡ true) × (count ≤ nat_abs f.end - nat_abs f.start) }
-    ensures { result ≡ with_accumulator f (bitwise_xor (rotate_bit_field f.accumulator (nat_abs f.start) (nat_abs f.end) (pos count)) y) }
-{
-    let start = absolute(f.start);
-    let end = absolute(f.end);
-    let rotated = rotate_bit_field(f.accumulator, start, end, count);
-    let mut g = f;
-    g.accumulator = xor(rotated, y);
-    g
-}
+impl Open {
+    // The accumulator rotated in its field by a count, and then xored with a fixnum.
+    pub fn rotate_and_xor(self, count: u64, y: i64) -> Open
+        requires inside { count ≤ nat_abs self.fold.end - nat_abs self.fold.start }
+        requires fixnum { fits self.fold.width y ≡ true }
+        ensures { result.fold ≡ with_accumulator self.fold (bitwise_xor (rotate_bit_field self.fold.accumulator (nat_abs self.fold.start) (nat_abs self.fold.end) (pos count)) y) }
+    {
+        let rotated = rotate_bit_field(self.fold.accumulator, self.start(), self.end(), count);
+        self.with_accumulator(xor(rotated, y))
+    }
 
-// Code 40 on the accumulator, and then code 28 on that and the byte.
-pub fn fold_byte(f: Fold, byte: u8) -> Fold
-    requires { is_open f ≡ true }
-    ensures value { result ≡ fold_byte f byte }
-    ensures result_value { is_open result ≡ true }
-{
-    rotate_and_xor(f, absolute(f.count), byte as i64)
+    // Code 40 on the accumulator, and then code 28 on that and the byte.
+    pub fn fold_byte(self, byte: u8) -> Open
+        ensures { result.fold ≡ fold_byte self.fold byte }
+    {
+        self.rotate_and_xor(self.count(), i64::from(byte))
+    }
 }

@@ -3,9 +3,9 @@
 #![tactic(auto)]
 
 ghost use Rattle.std.specs.Prelude.{◌≡◌};
-ghost use Rattle.outcomes.specs.Number.{number};
+ghost use Rattle.outcomes.specs.Refusal.{outcome_of};
 ghost use Rattle.fold.specs.Fold.{settings};
-ghost use Rattle.fold.specs.Calls.{opening, folding, read_outcome, joining};
+ghost use Rattle.fold.specs.Calls.{opening, opening_of, folding, folding_of, read_outcome, joining};
 
 mod byte;
 mod four;
@@ -13,14 +13,12 @@ mod piece;
 mod record;
 mod run;
 
-use outcomes::number::{Number, done, refuse_number};
-use piece::join_piece;
-use record::{is_open, open_record};
-use run::fold_bytes;
+use outcomes::refusal::Refusal;
+use record::Open;
 
 // The width, the field that is rotated, the rotation's count, and the accumulator. A record is open where code 40 would accept its fields.
 #[repr(C)]
-#[derive(Clone, Copy)]
+#[derive(Clone, Copy, Debug, PartialEq, Eq)]
 pub struct Fold {
     pub width: u64,
     pub start: i64,
@@ -29,82 +27,55 @@ pub struct Fold {
     pub accumulator: i64,
 }
 
-// What opening answers: a refusal number, 0 for done, and the place of the field that it is refused for, or 0: accumulator 1, start 2,
-// end 3, count 4.
+// Why opening is refused, and the place of the field that it is refused for, or 0: accumulator 1, start 2, end 3, count 4.
+#[derive(Clone, Copy, Debug, PartialEq, Eq)]
+pub struct Refused {
+    pub refusal: Refusal,
+    pub place: u64,
+}
+
+// The same for C: the refusal's number, and 0 for done.
 #[repr(C)]
-#[derive(Clone, Copy)]
+#[derive(Clone, Copy, Debug, PartialEq, Eq)]
 pub struct Opened {
     pub refusal: u64,
     pub place: u64,
 }
 
-// What opening answers, and the record afterwards.
-#[derive(Clone, Copy)]
-pub struct Opening {
-    pub opened: Opened,
-    pub fold: Fold,
-}
-
-// What a chunk or a piece answers, and the record afterwards.
-#[derive(Clone, Copy)]
-pub struct Folding {
-    pub refusal: u64,
-    pub fold: Fold,
-}
-
-const NOT_OPEN: u64 = 9;
-
-// Refusals 1, 4 and 5 as code 40 has them. A refused opening gives a record of zeros, which is not open.
-pub fn open(width: u64, start: i64, end: i64, count: i64, accumulator: i64) -> Opening
-    ensures { result ≡ opening (settings width start end count accumulator) }
+// The refusals are those of code 40: the width, a field that is no fixnum, and one outside its domain.
+pub fn open(width: u64, start: i64, end: i64, count: i64, accumulator: i64) -> Result<Fold, Refused>
+    ensures { opening_of result ≡ opening (settings width start end count accumulator) }
 {
-    open_record(Fold {
+    let settings = Fold {
         width,
         start,
         end,
         count,
         accumulator,
-    })
+    };
+    Ok(Open::new(settings)?.fold)
 }
 
-// Refusal 9 where the record is not open, for an empty chunk too.
-pub fn chunk(f: Fold, bytes: &[u8]) -> Folding
-    ensures { result ≡ folding f bytes.now }
+// An empty chunk is refused too where the record is not open.
+#[tactic(auto, unfolding(crate::specs::Calls::folding, crate::specs::Calls::folding_of, outcomes::specs::Refusal::code_of))]
+pub fn chunk(f: Fold, bytes: &[u8]) -> Result<Fold, Refusal>
+    ensures { folding_of f result ≡ folding f bytes.now }
 {
-    if is_open(f) {
-        Folding {
-            refusal: 0,
-            fold: fold_bytes(f, bytes),
-        }
-    } else {
-        Folding {
-            refusal: NOT_OPEN,
-            fold: f,
-        }
-    }
+    Ok(Open::lent(f)?.fold_bytes(bytes).fold)
 }
 
 // The accumulator.
-pub fn read(f: Fold) -> Number
-    ensures { result ≡ number (read_outcome f) }
+#[tactic(auto, unfolding(crate::specs::Calls::read_outcome, outcomes::specs::Outcome::guard, outcomes::specs::Outcome::guard_at, outcomes::specs::Refusal::outcome_of, outcomes::specs::Refusal::code_of))]
+pub fn read(f: Fold) -> Result<i64, Refusal>
+    ensures { outcome_of result ≡ read_outcome f }
 {
-    if is_open(f) {
-        done(f.accumulator)
-    } else {
-        refuse_number(NOT_OPEN)
-    }
+    Ok(Open::lent(f)?.fold.accumulator)
 }
 
 // A piece of so many bytes, folded from 0 by the same settings, as if its bytes came now.
-pub fn join(f: Fold, piece: i64, length: u64) -> Folding
-    ensures { result ≡ joining f piece length }
+#[tactic(auto, unfolding(crate::specs::Calls::joining, crate::specs::Calls::folding_of, outcomes::specs::Refusal::code_of))]
+pub fn join(f: Fold, piece: i64, length: u64) -> Result<Fold, Refusal>
+    ensures { folding_of f result ≡ joining f piece length }
 {
-    if is_open(f) {
-        join_piece(f, piece, length)
-    } else {
-        Folding {
-            refusal: NOT_OPEN,
-            fold: f,
-        }
-    }
+    Ok(Open::lent(f)?.join(piece, length)?.fold)
 }

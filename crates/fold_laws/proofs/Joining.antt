@@ -10,12 +10,11 @@ use Rattle.bits.specs.Logical.{bitwise_xor}
 use Rattle.fold.specs.declared.Fold.{Fold}
 use Rattle.fold.specs.Fold.{AllBytes, with_accumulator, is_open}
 use Rattle.fold.specs.Calls.{after, folding, net_count, joining}
-use Rattle.fold.proofs.CallLaws.{not-open-folding, not-open-joining}
+use Rattle.fold.proofs.CallLaws.{not-open-folding, not-open-joining, folding-open}
 use Rattle.fold.proofs.JoinLaws.{rotated_by, joining-open}
 use Rattle.fold.proofs.OpenLaws.{open-field}
 use Rattle.fold.proofs.IntegerFold.{accumulate, accumulate-joined}
 use Rattle.fold.proofs.ByteLaws.{accumulated, fold_bytes-is}
-use Rattle.fold_laws.proofs.Runs.{folding-open}
 
 module _ (f : Fold) where
   -- a piece of these bytes

@@ -7,12 +7,11 @@ use lib.IntN.{ℤ, nat_abs}
 use Rattle.outcomes.specs.Outcome.{done, refuse}
 use Rattle.outcomes.proofs.OutcomeLaws.{passed, refused-done, done-injective}
 use Rattle.fold.specs.declared.Fold.{Fold}
-use Rattle.fold.specs.declared.Folding.{Folding}
 use Rattle.fold.specs.Fold.{AllBytes, settings, with_accumulator, is_open, fold_bytes}
-use Rattle.fold.specs.Calls.{zeros, after, folding, read_outcome, identifier}
+use Rattle.fold.specs.Calls.{Folding, zeros, after, folding, read_outcome, identifier}
 use Rattle.fold.proofs.IntegerFold.{accumulate}
 use Rattle.fold.proofs.ByteLaws.{fold_bytes-is, open-bytes}
-use Rattle.fold_laws.proofs.Runs.{folding-open}
+use Rattle.fold.proofs.CallLaws.{folding-open}
 use Rattle.fold_laws.proofs.Opening.{shut, zeros-shut, opening-at}
 
 module _ (w : ℕ) (start end count a : ℤ) (bs : List ℕ) where

@@ -6,10 +6,9 @@ use mathlib.Core.List.{List, [], ◌∷◌, ◌++◌}
 use lib.IntN.{ℤ}
 use Rattle.bits.specs.Testbit.{fits}
 use Rattle.fold.specs.declared.Fold.{Fold}
-use Rattle.fold.specs.declared.Folding.{Folding}
 use Rattle.fold.specs.Fold.{AllBytes, settings, with_accumulator, is_open, fold_byte, fold_bytes}
-use Rattle.fold.specs.Calls.{after, folding}
-use Rattle.fold.proofs.CallLaws.{not-open-folding}
+use Rattle.fold.specs.Calls.{Folding, after, folding}
+use Rattle.fold.proofs.CallLaws.{not-open-folding, folding-open}
 use Rattle.fold.proofs.ByteLaws.{accumulated, fold_bytes-is, open-bytes}
 use Rattle.fold.proofs.OpenLaws.{open-field}
 use Rattle.fold_laws.specs.Identifiers.{concatenated, after_chunks}
@@ -35,10 +34,6 @@ pub accumulated-fits : (f : Fold) → is_open f ≡ true → (bs : List ℕ) →
 unfolding with_accumulator settings
 accumulated-fits f h bs l =
     subst (λ (g : Fold). fits g.width g.accumulator ≡ true) (fold_bytes-is f h bs l) (open-field (fold_bytes f bs) (open-bytes f h bs l)).fixnum
-
-pub folding-open : (f : Fold) → is_open f ≡ true → (bs : List ℕ) → folding f bs ≡ after 0 (fold_bytes f bs)
-unfolding folding
-folding-open f h bs = rw h
 
 folding-refusal : (f : Fold) (bs : List ℕ) → (folding f bs).refusal ≡ cond (is_open f) 0 9
 unfolding folding after

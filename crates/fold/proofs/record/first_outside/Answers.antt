@@ -71,35 +71,35 @@ overflow_sub-f c =
     rw (back-word f.start s, back-word f.end e)
     (size_word f c.requires s e (start_test f c.requires s e c.within.ensures ∙ c.if-not-within.false) (end_test f c.requires s e c.within-2.ensures ∙ c.if-not-within-2.false))
 
-pub returns-then-not-within : goal.returns-then-not-within
+pub returns-then-not-within-clause-some : goal.returns-then-not-within-clause-some
 unfolding first_failed first_failed_from
-returns-then-not-within c =
-    sym (first_of c.args.f (start_test c.args.f c.requires (omega arith) (omega arith) c.within.ensures ∙ c.if-not-within.true) refl refl)
+returns-then-not-within-clause-some c =
+    (first_of c.args.f (start_test c.args.f c.requires (omega arith) (omega arith) c.within.ensures ∙ c.if-not-within.true) refl refl, omega arith)
 
-pub returns-then-not-within-2 : goal.returns-then-not-within-2
+pub returns-then-not-within-2-clause-some : goal.returns-then-not-within-2-clause-some
 unfolding first_failed first_failed_from
-returns-then-not-within-2 c =
+returns-then-not-within-2-clause-some c =
     let f = c.args.f in
     let s : mag f.start < 2 ^ 63 = omega arith in
     let e : mag f.end < 2 ^ 63 = omega arith in
-    sym (first_of f (start_test f c.requires s e c.within.ensures ∙ c.if-not-within.false) (end_test f c.requires s e c.within-2.ensures ∙ c.if-not-within-2.true) refl)
+    (first_of f (start_test f c.requires s e c.within.ensures ∙ c.if-not-within.false) (end_test f c.requires s e c.within-2.ensures ∙ c.if-not-within-2.true) refl, omega arith)
 
-pub returns-then-not-within-3 : goal.returns-then-not-within-3
+pub returns-then-not-within-3-clause-some : goal.returns-then-not-within-3-clause-some
 unfolding first_failed first_failed_from
-returns-then-not-within-3 c =
-    let f = c.args.f in
-    let s : mag f.start < 2 ^ 63 = omega arith in
-    let e : mag f.end < 2 ^ 63 = omega arith in
-    let p = start_test f c.requires s e c.within.ensures ∙ c.if-not-within.false in
-    let q = end_test f c.requires s e c.within-2.ensures ∙ c.if-not-within-2.false in
-    sym (first_of f p q (count-test f c.requires s e (omega arith) p q c.within-3.ensures ∙ c.if-not-within-3.true))
-
-pub returns : goal.returns
-unfolding first_failed first_failed_from
-returns c =
+returns-then-not-within-3-clause-some c =
     let f = c.args.f in
     let s : mag f.start < 2 ^ 63 = omega arith in
     let e : mag f.end < 2 ^ 63 = omega arith in
     let p = start_test f c.requires s e c.within.ensures ∙ c.if-not-within.false in
     let q = end_test f c.requires s e c.within-2.ensures ∙ c.if-not-within-2.false in
-    sym (first_of f p q (count-test f c.requires s e (omega arith) p q c.within-3.ensures ∙ c.if-not-within-3.false))
+    (first_of f p q (count-test f c.requires s e (omega arith) p q c.within-3.ensures ∙ c.if-not-within-3.true), omega arith)
+
+pub returns-clause-none : goal.returns-clause-none
+unfolding first_failed first_failed_from
+returns-clause-none c =
+    let f = c.args.f in
+    let s : mag f.start < 2 ^ 63 = omega arith in
+    let e : mag f.end < 2 ^ 63 = omega arith in
+    let p = start_test f c.requires s e c.within.ensures ∙ c.if-not-within.false in
+    let q = end_test f c.requires s e c.within-2.ensures ∙ c.if-not-within-2.false in
+    first_of f p q (count-test f c.requires s e (omega arith) p q c.within-3.ensures ∙ c.if-not-within-3.false)
