@@ -8,7 +8,8 @@ use mathlib.Core.List.{List, [], ◌∷◌}
 use lib.ListN.{length, drop}
 use borrow.Author.Tests.{lt-ltb, le-ltb, le-leb, lt-leb, ne_eqb}
 use Rattle.text.specs.Numerals.{are_digits, numeral_from, numeral, byte_at, one_of}
-use Rattle.fltext.specs.declared.exponent.Exponent.{Exponent}
+use Rattle.fltext.specs.declared.FlonumError.{FlonumError}
+use Rattle.std.specs.Prelude.{Ok, Err}
 use Rattle.fltext.specs.Forms.{is_minus, sign_length, after_sign, is_letter, is_natural, exponent_digits, is_exponent, exponent, is_negative}
 use Rattle.fltext.specs.Readings.{limit}
 use Rattle.fltext.specs.Inner.{signed, exponent_of, exponent_reading}
@@ -53,27 +54,27 @@ unfolding is_natural
 natural-by cs h e = rw (lt-ltb 0 (length cs) (omega arith)) e
 
 module _ (s : Bool) (cs : List ℕ) where
-  pub exponent_of-malformed : is_natural cs ≡ false → exponent_of s cs ≡ Exponent.Malformed
+  pub exponent_of-malformed : is_natural cs ≡ false → exponent_of s cs ≡ Err FlonumError.Malformed
   unfolding exponent_of
   exponent_of-malformed e = rw e refl
 
-  pub exponent_of-value : {n : ℕ} → is_natural cs ≡ true → numeral 10 cs ≡ n → n ≤ limit → exponent_of s cs ≡ signed s n
+  pub exponent_of-value : {n : ℕ} → is_natural cs ≡ true → numeral 10 cs ≡ n → n ≤ limit → exponent_of s cs ≡ Ok (signed s n)
   unfolding exponent_of
   exponent_of-value {n} e f h = rw (e, f, le-leb n limit h) refl
 
-  pub exponent_of-long : is_natural cs ≡ true → limit < numeral 10 cs → exponent_of s cs ≡ Exponent.TooLong
+  pub exponent_of-long : is_natural cs ≡ true → limit < numeral 10 cs → exponent_of s cs ≡ Err FlonumError.TooLong
   unfolding exponent_of
   exponent_of-long e h = rw (e, lt-leb (numeral 10 cs) limit h) refl
 
 -- ---- the whole exponent
 
-pub reading-none : (h : Bool) (cs : List ℕ) → length cs ≡ 0 → exponent_reading h cs ≡ Exponent.Found 0 0
+pub reading-none : (h : Bool) (cs : List ℕ) → length cs ≡ 0 → exponent_reading h cs ≡ Ok (record { up = 0; down = 0 })
 unfolding exponent_reading is_exponent exponent exponent_digits is_negative after_sign sign_length is_minus byte_at one_of numeral numeral_from signed
 reading-none h [] e = refl
 reading-none h (c ∷ cs) e = absurd (omega arith)
 
 module _ (h : Bool) (cs : List ℕ) (l : length cs ≡ 0 → ⊥) where
-  pub reading-other : is_letter h (byte_at cs 0) ≡ false → exponent_reading h cs ≡ Exponent.Malformed
+  pub reading-other : is_letter h (byte_at cs 0) ≡ false → exponent_reading h cs ≡ Err FlonumError.Malformed
   unfolding exponent_reading is_exponent
   reading-other e = rw (ne_eqb (length cs) 0 l, e) refl
 

@@ -1,48 +1,33 @@
 -- The parts of a text, as the code reads them. Assumes nothing.
-use Prim.Native.Nat.{ℕ, suc, ◌+◌, ◌-◌, ◌≤◌, ◌<◌}
+use Prim.Native.Nat.{ℕ, suc, ◌+◌, ◌-◌, ◌≤◌}
 use native.Mathlib.Nat.{le_refl}
-use native.Mathlib.Numerals.{add-one}
 use native.Mathlib.Omega.{arith}
 use mathlib.Core.Path.{◌≡◌, refl, ap, ◌∙◌}
-use mathlib.Core.Bool.{Bool, true, false, cond, ◌&&◌}
+use mathlib.Core.Bool.{Bool, true, false, cond, not, ◌&&◌}
 use mathlib.Core.List.{List, [], ◌∷◌}
 use lib.Dec.{eqb, ltb}
-use lib.ListN.{length, take, drop, get_or, length-drop, drop_of_length-le}
-use lib.Seq.{drop-cons}
-use borrow.Author.Tests.{lt-ltb, le-ltb, eq-eqb, ne_eqb}
+use lib.ListN.{length, take, drop, length-drop}
+use borrow.Author.Tests.{ltb-false}
 use borrow.Author.Rules.{part_to_end}
+use Rattle.std.specs.Prelude.{Some, None, unwrap_or, position}
+use Rattle.std.specs.List.{position_or_len}
+use Rattle.std.specs.Cmp.Lexicographic.{pointwise}
 use Rattle.text.specs.Numerals.{digit, are_digits, byte_at, one_of}
 use Rattle.fltext.specs.Forms.{same, sign_length, after_sign, point_length, base, digit_count}
 use Rattle.fltext.specs.Inner.{parts}
 
 -- ---- the same bytes
 
-module _ (xs ys : List ℕ) (i : ℕ) where
-  same_drop : i < length xs → i < length ys
-      → same (drop i xs) (drop i ys) ≡ eqb (get_or xs i 0) (get_or ys i 0) && same (drop (i + 1) xs) (drop (i + 1) ys)
-  unfolding same
-  same_drop h g = rw (add-one i, drop-cons xs i 0 h, drop-cons ys i 0 g) refl
-
-  pub same_next : i < length xs → i < length ys → get_or xs i 0 ≡ get_or ys i 0 → same (drop i xs) (drop i ys) ≡ same (drop (i + 1) xs) (drop (i + 1) ys)
-  same_next h g e = same_drop h g ∙ ap (λ (b : Bool). b && same (drop (i + 1) xs) (drop (i + 1) ys)) (eq-eqb (get_or xs i 0) (get_or ys i 0) e)
-
-  pub same_stop : i < length xs → i < length ys → (get_or xs i 0 ≡ get_or ys i 0 → ⊥) → same (drop i xs) (drop i ys) ≡ false
-  same_stop h g e = same_drop h g ∙ ap (λ (b : Bool). b && same (drop (i + 1) xs) (drop (i + 1) ys)) (ne_eqb (get_or xs i 0) (get_or ys i 0) e)
-
-  pub same_end : length xs ≤ i → length ys ≤ i → same (drop i xs) (drop i ys) ≡ true
-  unfolding same
-  same_end h g = rw (drop_of_length-le xs h, drop_of_length-le ys g) refl
-
-pub same-lengths : (xs ys : List ℕ) → (length xs ≡ length ys → ⊥) → same xs ys ≡ false
+same_pointwise : (xs ys : List ℕ) → pointwise eqb xs ys ≡ same xs ys
 unfolding same
-same-lengths [] [] h = absurd (h refl)
-same-lengths [] (y ∷ ys) h = refl
-same-lengths (x ∷ xs) [] h = refl
-same-lengths (x ∷ xs) (y ∷ ys) h = rw (same-lengths xs ys (λ e. h (ap suc e))) (and-false (eqb x y))
-  where
-    and-false : (b : Bool) → b && false ≡ false
-    and-false true = refl
-    and-false false = refl
+same_pointwise [] [] = refl
+same_pointwise [] (y ∷ ys) = refl
+same_pointwise (x ∷ xs) [] = refl
+same_pointwise (x ∷ xs) (y ∷ ys) = ap (λ (b : Bool). eqb x y && b) (same_pointwise xs ys)
+
+-- what the library's comparison with a text answers
+pub same_by : (xs ys zs : List ℕ) {b : Bool} → b ≡ pointwise eqb xs ys → ys ≡ zs → b ≡ same xs zs
+same_by xs ys zs e f = e ∙ ap (pointwise eqb xs) f ∙ same_pointwise xs zs
 
 -- ---- a sign and a point are in the text
 
@@ -71,21 +56,6 @@ point_length-le (c ∷ cs) = one-le (eqb c 46) (length cs)
 -- ---- digits
 
 module _ (b : ℕ) where
-  digit_count-drop : (cs : List ℕ) (i : ℕ) → i < length cs
-      → digit_count b (drop i cs) ≡ cond (ltb (digit (get_or cs i 0)) b) (suc (digit_count b (drop (i + 1) cs))) 0
-  unfolding digit_count
-  digit_count-drop cs i h = rw (add-one i, drop-cons cs i 0 h) refl
-
-  pub digit_count-stop : (cs : List ℕ) (i : ℕ) → i < length cs → b ≤ digit (get_or cs i 0) → digit_count b (drop i cs) ≡ 0
-  digit_count-stop cs i h g = digit_count-drop cs i h ∙ ap (λ (t : Bool). cond t (suc (digit_count b (drop (i + 1) cs))) 0) (le-ltb (digit (get_or cs i 0)) b g)
-
-  pub digit_count-next : (cs : List ℕ) (i : ℕ) → i < length cs → digit (get_or cs i 0) < b → digit_count b (drop i cs) ≡ suc (digit_count b (drop (i + 1) cs))
-  digit_count-next cs i h g = digit_count-drop cs i h ∙ ap (λ (t : Bool). cond t (suc (digit_count b (drop (i + 1) cs))) 0) (lt-ltb (digit (get_or cs i 0)) b g)
-
-  pub digit_count-end : (cs : List ℕ) (i : ℕ) → length cs ≤ i → digit_count b (drop i cs) ≡ 0
-  unfolding digit_count
-  digit_count-end cs i h = rw (drop_of_length-le cs h) refl
-
   pub digit_count-le : (cs : List ℕ) → digit_count b cs ≤ length cs
   unfolding digit_count
   digit_count-le [] = le_refl 0
@@ -94,6 +64,24 @@ module _ (b : ℕ) where
       go : (t : Bool) → digit_count b cs ≤ length cs → cond t (suc (digit_count b cs)) 0 ≤ suc (length cs)
       go true h = omega arith
       go false h = omega arith
+
+  -- the place of the first byte that is no digit
+  digit_count-prefix : (cs : List ℕ) → position_or_len (λ (c : ℕ). not (ltb (digit c) b)) cs ≡ digit_count b cs
+  unfolding digit_count
+  digit_count-prefix [] = refl
+  digit_count-prefix (c ∷ cs) = go (ltb (digit c) b) (digit_count-prefix cs)
+    where
+      go : (t : Bool) {m n : ℕ} → m ≡ n → cond (not (not t)) (1 + m) 0 ≡ cond t (suc n) 0
+      go true e = omega (arith, e)
+      go false e = refl
+
+  pub digit_count-position : (cs : List ℕ)
+      → unwrap_or (position (λ (c : ℕ). not (ltb (digit c) b)) cs) (length cs) ≡ digit_count b cs
+  digit_count-position cs = ap (λ (n : ℕ). unwrap_or (cond (ltb n (length cs)) (Some n) None) (length cs)) (digit_count-prefix cs) ∙ go (ltb (digit_count b cs) (length cs)) refl
+    where
+      go : (t : Bool) → ltb (digit_count b cs) (length cs) ≡ t → unwrap_or (cond t (Some (digit_count b cs)) None) (length cs) ≡ digit_count b cs
+      go true e = refl
+      go false e = omega (arith, ltb-false (digit_count b cs) (length cs) e, digit_count-le cs)
 
   pub digit_count-digits : (cs : List ℕ) → are_digits b (take (digit_count b cs) cs) ≡ true
   unfolding digit_count are_digits

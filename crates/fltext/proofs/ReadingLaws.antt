@@ -11,7 +11,8 @@ use borrow.Author.Tests.{lt-ltb, le-ltb, leb-true}
 use borrow.Author.Rules.{part_to_end}
 use Rattle.bits.proofs.Booleans.{and-false}
 use Rattle.text.specs.Numerals.{are_digits, byte_at, one_of}
-use Rattle.fltext.specs.declared.FlonumReading.{FlonumReading}
+use Rattle.fltext.specs.declared.FlonumError.{FlonumError}
+use Rattle.std.specs.Prelude.{Float, Result, Ok, Err}
 use Rattle.fltext.specs.declared.exponent.Exponent.{Exponent}
 use Rattle.fltext.specs.declared.form.Parts.{Parts}
 use Rattle.fltext.specs.Forms.{base, is_hex, digit_count, whole, point_length, after_whole, fraction, tail, is_exponent, exponent, is_negative, digits, is_number}
@@ -93,15 +94,13 @@ fraction-digits h cs = whole-digits h (after_whole h cs)
 
 -- ---- a number, by the exponent that was read
 
-abbrev pub by_exponent : (ℕ → ℕ → FlonumReading) → Exponent → FlonumReading
-by_exponent found (Exponent.Found u d) = found u d
-by_exponent found Exponent.Malformed = FlonumReading.Malformed
-by_exponent found Exponent.TooLong = FlonumReading.TooLong
+abbrev pub by_exponent : (Exponent → Result Float FlonumError) → Result Exponent FlonumError → Result Float FlonumError
+by_exponent found (Ok e) = found e
+by_exponent found (Err x) = Err x
 
-abbrev pub Within : Exponent → Type 0
-Within (Exponent.Found u d) = (u ≤ limit) × (d ≤ limit)
-Within Exponent.Malformed = Unit {0}
-Within Exponent.TooLong = Unit {0}
+abbrev pub Within : Result Exponent FlonumError → Type 0
+Within (Ok e) = (e.up ≤ limit) × (e.down ≤ limit)
+Within (Err x) = Unit {0}
 
 -- an exponent that is not too long is within its limit
 pub reading-within : (h : Bool) (cs : List ℕ) → Within (exponent_reading h cs)
@@ -111,7 +110,8 @@ reading-within h cs = go (is_exponent h cs) (leb (exponent cs) limit) refl (is_n
     n : ℕ
     n = exponent cs
 
-    go : (a b : Bool) → leb n limit ≡ b → (c : Bool) → Within (cond a (cond b (Exponent.Found (cond c 0 n) (cond c n 0)) Exponent.TooLong) Exponent.Malformed)
+    go : (a b : Bool) → leb n limit ≡ b → (c : Bool)
+        → Within (cond a (cond b (Ok (record { up = cond c 0 n; down = cond c n 0 })) (Err FlonumError.TooLong)) (Err FlonumError.Malformed))
     go true true e true = (omega arith, leb-true n limit e)
     go true true e false = (leb-true n limit e, omega arith)
     go true false e c = tt
@@ -119,10 +119,10 @@ reading-within h cs = go (is_exponent h cs) (leb (exponent cs) limit) refl (is_n
 
 module _ (s h : Bool) (cs : List ℕ) where
   -- where the digits are not too many
-  abbrev pub short : ℕ → ℕ → FlonumReading
-  short u d = cond (leb (length (whole h cs) + length (fraction h cs)) limit) (FlonumReading.Number (flonum s h (whole h cs) (fraction h cs) u d)) FlonumReading.TooLong
+  abbrev pub short : Exponent → Result Float FlonumError
+  short e = cond (leb (length (whole h cs) + length (fraction h cs)) limit) (Ok (flonum s h (whole h cs) (fraction h cs) e.up e.down)) (Err FlonumError.TooLong)
 
-  pub number-none : digits h cs ≡ 0 → number_reading s h cs ≡ FlonumReading.Malformed
+  pub number-none : digits h cs ≡ 0 → number_reading s h cs ≡ Err FlonumError.Malformed
   unfolding number_reading is_number
   number-none e = rw (le-ltb 0 (digits h cs) (omega arith)) refl
 
@@ -135,13 +135,13 @@ module _ (s h : Bool) (cs : List ℕ) where
       n : ℕ
       n = exponent (tail h cs)
 
-      number : ℕ → ℕ → FlonumReading
-      number u d = FlonumReading.Number (flonum s h (whole h cs) (fraction h cs) u d)
+      number : ℕ → ℕ → Result Float FlonumError
+      number u d = Ok (flonum s h (whole h cs) (fraction h cs) u d)
 
       go : (a b d c : Bool)
-          → cond a (cond (d && b) (number (cond c 0 n) (cond c n 0)) FlonumReading.TooLong) FlonumReading.Malformed
-          ≡ by_exponent (λ u v. cond d (number u v) FlonumReading.TooLong)
-          (cond a (cond b (Exponent.Found (cond c 0 n) (cond c n 0)) Exponent.TooLong) Exponent.Malformed)
+          → cond a (cond (d && b) (number (cond c 0 n) (cond c n 0)) (Err FlonumError.TooLong)) (Err FlonumError.Malformed)
+          ≡ by_exponent (λ e. cond d (number e.up e.down) (Err FlonumError.TooLong))
+          (cond a (cond b (Ok (record { up = cond c 0 n; down = cond c n 0 })) (Err FlonumError.TooLong)) (Err FlonumError.Malformed))
       go true true true c = refl
       go true true false c = refl
       go true false true c = refl

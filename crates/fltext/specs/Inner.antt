@@ -7,8 +7,9 @@
 --   scaled h w f p         ==  the number of the digits w and f, times the radix to the power p
 --   room_for n              ==  how many bits are enough for n digits, those of a power of the radix among them, in units of 2^-1075
 --   Cleared n xs           ==  limbs that are 0, and room enough for so many digits
-use Rattle.std.specs.Prelude.{ℕ, ◌+◌, ◌*◌, ◌^◌, ◌≤◌, ◌≡◌, Bool, true, cond, List, leb, length, drop}
+use Rattle.std.specs.Prelude.{ℕ, ◌+◌, ◌*◌, ◌^◌, ◌≤◌, ◌≡◌, Bool, true, cond, List, leb, length, drop, Result, Ok, Err}
 use Rattle.text.specs.Numerals.{are_digits, numeral, numeral_from}
+use Rattle.fltext.specs.declared.FlonumError.{FlonumError}
 use Rattle.fltext.specs.declared.exponent.Exponent.{Exponent}
 use Rattle.fltext.specs.declared.form.Parts.{Parts}
 use Rattle.fltext.specs.Forms.{base, radix, digit_count, point_length, is_natural, is_exponent, exponent, is_negative}
@@ -16,13 +17,13 @@ use Rattle.fltext.specs.Readings.{limit}
 use Rattle.text.specs.Naturals.{natural}
 
 unfoldable pub signed : Bool → ℕ → Exponent
-signed s n = Exponent.Found (cond s 0 n) (cond s n 0)
+signed s n = record { up = cond s 0 n; down = cond s n 0 }
 
-unfoldable pub exponent_of : Bool → List ℕ → Exponent
-exponent_of s cs = cond (is_natural cs) (cond (leb (numeral 10 cs) limit) (signed s (numeral 10 cs)) Exponent.TooLong) Exponent.Malformed
+unfoldable pub exponent_of : Bool → List ℕ → Result Exponent FlonumError
+exponent_of s cs = cond (is_natural cs) (cond (leb (numeral 10 cs) limit) (Ok (signed s (numeral 10 cs))) (Err FlonumError.TooLong)) (Err FlonumError.Malformed)
 
-unfoldable pub exponent_reading : Bool → List ℕ → Exponent
-exponent_reading h cs = cond (is_exponent h cs) (cond (leb (exponent cs) limit) (signed (is_negative cs) (exponent cs)) Exponent.TooLong) Exponent.Malformed
+unfoldable pub exponent_reading : Bool → List ℕ → Result Exponent FlonumError
+exponent_reading h cs = cond (is_exponent h cs) (cond (leb (exponent cs) limit) (Ok (signed (is_negative cs) (exponent cs))) (Err FlonumError.TooLong)) (Err FlonumError.Malformed)
 
 unfoldable pub parts : Bool → List ℕ → Parts
 parts h cs =

@@ -6,9 +6,9 @@ ghost use Rattle.fltext.specs.Inner as inner;
 
 use super::number::base;
 use text::byte_at;
-use text::digit::digit;
+use text::digit::is_digit;
 
-#[derive(Drop)]
+#[derive(Clone, Copy)]
 pub struct Parts {
     pub whole: usize,
     pub from: usize,
@@ -30,58 +30,31 @@ pub fn sign_length(text: &[u8]) -> usize
     }
 }
 
-fn same(x: &[u8], y: &[u8]) -> bool
-    ensures { result ≡ forms.same x.now y.now }
-{
-    if x.len() != y.len() {
-        return false;
-    }
-    let mut i = 0;
-    while i < x.len() {
-        if x[i] != y[i] {
-            return false;
-        }
-        i += 1;
-    }
-    true
-}
-
 pub fn is_infinite(text: &[u8]) -> bool
     ensures { result ≡ is_infinite text.now }
 {
-    same(text, b"inf") || same(text, b"inf.0")
+    text == b"inf".as_slice() || text == b"inf.0".as_slice()
 }
 
 pub fn is_nan(text: &[u8]) -> bool
     ensures { result ≡ forms.is_nan text.now }
 {
-    same(text, b"nan") || same(text, b"nan.0")
+    text == b"nan".as_slice() || text == b"nan.0".as_slice()
 }
 
 pub fn is_hexadecimal(text: &[u8]) -> bool
     ensures { result ≡ is_hex text.now }
 {
-    if byte_at(text, 0) != b'0' {
-        return false;
-    }
-    match byte_at(text, 1) {
-        b'x' | b'X' => true,
-        _ => false,
-    }
+    byte_at(text, 0) == b'0' && matches!(byte_at(text, 1), b'x' | b'X')
 }
 
 // How many digits a text begins with.
 fn digit_count(base: u64, text: &[u8]) -> usize
     ensures { result ≡ digit_count base text.now }
 {
-    let mut i = 0;
-    while i < text.len() {
-        if base <= digit(text[i]) {
-            return i;
-        }
-        i += 1;
-    }
-    i
+    text.iter()
+        .position(|&c| !is_digit(base, c))
+        .unwrap_or(text.len())
 }
 
 fn point_length(text: &[u8]) -> usize

@@ -11,10 +11,9 @@ pub mod scale;
 
 pub use reading::read_flonum;
 
-// What a text is as a flonum.
-#[derive(Drop)]
-pub enum FlonumReading {
-    Number(f64),
+// Why a text is read as no flonum: it is none, or it has too many digits or too large an exponent.
+#[derive(Clone, Copy, Debug, PartialEq, Eq)]
+pub enum FlonumError {
     Malformed,
     TooLong,
 }

@@ -3,12 +3,6 @@ ghost use Rattle.std.specs.Prelude.{◌≡◌, ◌+◌, ◌*◌, ◌/◌, ◌%�
 ghost use Rattle.text.specs.Naturals.{natural};
 ghost use Rattle.fltext.specs.Limbs.{Becomes};
 
-fn wide(x: u32) -> u64
-    ensures { result ≡ x }
-{
-    x as u64
-}
-
 // The number times b, and c more.
 pub fn multiply_add(x: &mut [u32], b: u64, c: u64)
     requires b_bound { (b < 2 ^ 32) × (c < 2 ^ 32) }
@@ -16,12 +10,10 @@ pub fn multiply_add(x: &mut [u32], b: u64, c: u64)
     ensures { Becomes (natural x.old * b + c) x.old x.new }
 {
     let mut carry = c;
-    let mut j = 0;
-    while j < x.len() {
-        let t = wide(x[j]) * b + carry;
-        x[j] = (t % 0x1_0000_0000) as u32;
+    for limb in x.iter_mut() {
+        let t = u64::from(*limb) * b + carry;
+        *limb = (t % 0x1_0000_0000) as u32;
         carry = t / 0x1_0000_0000;
-        j += 1;
     }
 }
 
@@ -32,10 +24,8 @@ pub fn divide(x: &mut [u32], b: u64) -> u64
     ensures becomes { Becomes (natural x.old / b) x.old x.new }
 {
     let mut r = 0;
-    let mut j = x.len();
-    while 0 < j {
-        j -= 1;
-        let t = r * 0x1_0000_0000 + wide(x[j]);
+    for j in (0..x.len()).rev() {
+        let t = r * 0x1_0000_0000 + u64::from(x[j]);
         x[j] = (t / b) as u32;
         r = t % b;
     }
@@ -47,13 +37,11 @@ pub fn capped(x: &[u32]) -> u64
     ensures { result ≡ min (natural x.now) (2 ^ 53) }
 {
     let mut n = 0;
-    let mut j = x.len();
-    while 0 < j {
-        j -= 1;
+    for j in (0..x.len()).rev() {
         if 0x20_0000 <= n {
             return 0x20_0000_0000_0000;
         }
-        n = n * 0x1_0000_0000 + wide(x[j]);
+        n = n * 0x1_0000_0000 + u64::from(x[j]);
     }
     n
 }

@@ -1,15 +1,15 @@
 // A text as a flonum.
-ghost use Rattle.std.specs.Prelude.{◌≡◌, true, cond, ◌+◌, ◌≤◌, leb, length};
+ghost use Rattle.std.specs.Prelude.{◌≡◌, true, cond, ◌+◌, ◌≤◌, leb, length, Ok, Err};
 ghost use Rattle.std.specs.Float.{inf};
 ghost use Rattle.text.specs.Numerals.{are_digits};
-ghost use Rattle.fltext.specs.declared.FlonumReading.{FlonumReading};
+ghost use Rattle.fltext.specs.declared.FlonumError.{FlonumError};
 ghost use Rattle.fltext.specs.Forms as forms;
 ghost use Rattle.fltext.specs.Readings.{limit, flonum, number_reading, unsigned_reading, flonum_reading};
 
-use super::FlonumReading;
+use super::FlonumError;
 use super::exponent::{Exponent, read_exponent};
-use super::form::{is_hexadecimal, is_infinite, is_minus, is_nan, sign_length, take_apart};
-use super::number::nearest;
+use super::form::{Parts, is_hexadecimal, is_infinite, is_minus, is_nan, sign_length, take_apart};
+use super::number::Digits;
 use flonum::ieee::the_nan;
 
 fn infinity(negative: bool) -> f64
@@ -22,60 +22,54 @@ fn infinity(negative: bool) -> f64
     }
 }
 
-// Digits and an exponent, up - down, where the digits are not too many.
+// A number and its exponent, where its digits are not too many.
 fn read_digits(
     negative: bool,
     hexadecimal: bool,
     whole: &[u8],
     fraction: &[u8],
-    up: u64,
-    down: u64,
-) -> FlonumReading
+    exponent: Exponent,
+) -> Result<f64, FlonumError>
     requires whole_value { (are_digits (forms.base hexadecimal) whole.now ≡ true) × (are_digits (forms.base hexadecimal) fraction.now ≡ true) }
-    requires up_le_limit { (up ≤ limit) × (down ≤ limit) }
-    ensures { result ≡ cond (leb (length whole.now + length fraction.now) limit) (FlonumReading.Number (flonum negative hexadecimal whole.now fraction.now up down)) FlonumReading.TooLong }
+    requires up_le_limit { (exponent.up ≤ limit) × (exponent.down ≤ limit) }
+    ensures { result ≡ cond (leb (length whole.now + length fraction.now) limit) (Ok (flonum negative hexadecimal whole.now fraction.now exponent.up exponent.down)) (Err FlonumError.TooLong) }
 {
-    if 1500 < whole.len() {
-        return FlonumReading::TooLong;
+    if whole.len().saturating_add(fraction.len()) > 1500 {
+        return Err(FlonumError::TooLong);
     }
-    if 1500 - whole.len() < fraction.len() {
-        return FlonumReading::TooLong;
-    }
-    FlonumReading::Number(nearest(negative, hexadecimal, whole, fraction, up, down))
+    let digits = Digits {
+        hexadecimal,
+        whole,
+        fraction,
+    };
+    Ok(digits.nearest(negative, exponent))
 }
 
-fn read_number(negative: bool, hexadecimal: bool, text: &[u8]) -> FlonumReading
+fn read_number(negative: bool, hexadecimal: bool, text: &[u8]) -> Result<f64, FlonumError>
     ensures { result ≡ number_reading negative hexadecimal text.now }
 {
-    let parts = take_apart(hexadecimal, text);
-    let whole = parts.whole;
-    let from = parts.from;
-    let end = parts.end;
+    let Parts { whole, from, end } = take_apart(hexadecimal, text);
     if whole + (end - from) == 0 {
-        return FlonumReading::Malformed;
+        return Err(FlonumError::Malformed);
     }
-    match read_exponent(hexadecimal, &text[end..]) {
-        Exponent::Found(up, down) => read_digits(
-            negative,
-            hexadecimal,
-            &text[..whole],
-            &text[from..end],
-            up,
-            down,
-        ),
-        Exponent::Malformed => FlonumReading::Malformed,
-        Exponent::TooLong => FlonumReading::TooLong,
-    }
+    let exponent = read_exponent(hexadecimal, &text[end..])?;
+    read_digits(
+        negative,
+        hexadecimal,
+        &text[..whole],
+        &text[from..end],
+        exponent,
+    )
 }
 
-fn read_unsigned(negative: bool, text: &[u8]) -> FlonumReading
+fn read_unsigned(negative: bool, text: &[u8]) -> Result<f64, FlonumError>
     ensures { result ≡ unsigned_reading negative text.now }
 {
     if is_infinite(text) {
-        return FlonumReading::Number(infinity(negative));
+        return Ok(infinity(negative));
     }
     if is_nan(text) {
-        return FlonumReading::Number(the_nan());
+        return Ok(the_nan());
     }
     if is_hexadecimal(text) {
         return read_number(negative, true, &text[2..]);
@@ -83,9 +77,8 @@ fn read_unsigned(negative: bool, text: &[u8]) -> FlonumReading
     read_number(negative, false, text)
 }
 
-pub fn read_flonum(text: &[u8]) -> FlonumReading
+pub fn read_flonum(text: &[u8]) -> Result<f64, FlonumError>
     ensures { result ≡ flonum_reading text.now }
 {
-    let from = sign_length(text);
-    read_unsigned(is_minus(text), &text[from..])
+    read_unsigned(is_minus(text), &text[sign_length(text)..])
 }

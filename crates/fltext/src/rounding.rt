@@ -10,13 +10,11 @@ fn rounded_up(q: u64, half: bool, rest: bool) -> u64
     ensures value { result ≡ rounded_up q half rest }
     ensures upper_bound { result ≤ 2 ^ 53 }
 {
-    if !half {
-        return q;
+    match (half, rest) {
+        (false, _) => q,
+        (true, true) => q + 1,
+        (true, false) => q + q % 2,
     }
-    if rest {
-        return q + 1;
-    }
-    q + q % 2
 }
 
 // The exponent's field and the digits of q * 2^k, or of an infinity.

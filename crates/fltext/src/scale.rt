@@ -15,10 +15,8 @@ pub fn append_digits(base: u64, digits: &[u8], x: &mut [u32])
     requires digits_bound { numeral_from base (natural x.old) digits.now < 2 ^ (32 * length x.old) }
     ensures { Becomes (numeral_from base (natural x.old) digits.now) x.old x.new }
 {
-    let mut i = 0;
-    while i < digits.len() {
-        multiply_add(x, base, digit(digits[i]));
-        i += 1;
+    for &c in digits {
+        multiply_add(x, base, digit(c).unwrap());
     }
 }
 
@@ -28,10 +26,8 @@ pub fn multiply_power(b: u64, n: u64, x: &mut [u32])
     requires n_bound { natural x.old * b ^ n < 2 ^ (32 * length x.old) }
     ensures { Becomes (natural x.old * b ^ n) x.old x.new }
 {
-    let mut i = 0;
-    while i < n {
+    for _ in 0..n {
         multiply_add(x, b, 0);
-        i += 1;
     }
 }
 
@@ -42,11 +38,8 @@ pub fn divide_power(b: u64, n: u64, x: &mut [u32]) -> bool
     ensures becomes { Becomes (natural x.old / b ^ n) x.old x.new }
 {
     let mut rest = false;
-    let mut i = 0;
-    while i < n {
-        let r = divide(x, b);
-        rest = rest || r != 0;
-        i += 1;
+    for _ in 0..n {
+        rest |= divide(x, b) != 0;
     }
     rest
 }

@@ -1,6 +1,7 @@
 -- `fltext::exponent::read_exponent` meets its contract. Assumes nothing.
 use mathlib.Core.Path.{◌≡◌, sym, ap, ◌∙◌}
-use borrow.Author.Rules.{part_to_end}
+use borrow.Author.Rules.{rules, part_to_end}
+use borrow.Author.Tests.{tests}
 use Rattle.text.specs.Numerals.{byte_at}
 use Rattle.fltext.specs.Forms.{is_minus, after_sign, is_letter}
 use Rattle.fltext.specs.Inner.{exponent_of}
@@ -8,18 +9,19 @@ use Rattle.fltext.proofs.ExponentLaws.{reading-none, reading-other, reading-lett
 use Rattle.fltext.proofs.exponent.read_exponent.Goals as goal
 use Rattle.fltext.proofs.exponent.read_exponent.Goals.{After-is_letter}
 
-pub returns-then-text-eq0 : goal.returns-then-text-eq0
-returns-then-text-eq0 c = sym (reading-none _ _ c.if-text-eq0.true)
+pub returns-then-is_empty : goal.returns-then-is_empty
+returns-then-is_empty c = sym (reading-none _ _ (search (rules, tests)))
 
 letter : (c : After-is_letter) → let a = c.args in is_letter a.hexadecimal (byte_at a.text.now 0) ≡ c.is_letter.result
-letter c = sym (c.is_letter.ensures ∙ ap (is_letter c.args.hexadecimal) c.byte_at.ensures)
+unfolding byte_at
+letter c = sym c.is_letter.ensures
 
 pub returns-then-not-is_letter : goal.returns-then-not-is_letter
 returns-then-not-is_letter c =
-    sym (reading-other _ _ c.if-text-eq0.false (letter (goal.at.returns-then-not-is_letter c).After-is_letter ∙ c.if-not-is_letter.true))
+    sym (reading-other _ _ (search (rules, tests)) (letter (goal.at.returns-then-not-is_letter c).After-is_letter ∙ c.if-not-is_letter.true))
 
 pub returns : goal.returns
 returns c =
     c.after_letter.ensures
     ∙ ap (λ cs. exponent_of (is_minus cs) (after_sign cs)) (part_to_end c.args.text.now 1)
-    ∙ sym (reading-letter _ _ c.if-text-eq0.false (letter (goal.at.returns c).After-is_letter ∙ c.if-not-is_letter.false))
+    ∙ sym (reading-letter _ _ (search (rules, tests)) (letter (goal.at.returns c).After-is_letter ∙ c.if-not-is_letter.false))

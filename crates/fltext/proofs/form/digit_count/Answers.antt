@@ -1,26 +1,19 @@
--- `fltext::form::digit_count` meets its contract. The invariant: the first i bytes are digits. Assumes nothing.
-use Prim.Native.Nat.{zero-le}
-use native.Mathlib.Omega.{arith}
-use Rattle.fltext.proofs.FormLaws.{digit_count-stop, digit_count-next, digit_count-end}
+-- `fltext::form::digit_count` meets its contract. Assumes nothing.
+use mathlib.Core.Path.{ap, ◌∙◌}
+use mathlib.Core.Bool.{not}
+use lib.Dec.{ltb}
+use lib.ListN.{length}
+use borrow.Author.Rules.{rules}
+use borrow.Author.Tests.{tests}
+use Rattle.std.specs.Prelude.{unwrap_or}
+use Rattle.std.proofs.lemmas.Iterator.{YieldsList-from_slice}
+use Rattle.std.proofs.lemmas.Iterator.Search.{position_from_yields_List}
+use Rattle.text.specs.Numerals.{digit}
+use Rattle.fltext.proofs.FormLaws.{digit_count-position}
 use Rattle.fltext.proofs.form.digit_count.Goals as goal
-
-pub loop-i-init : goal.loop-i-init
-loop-i-init c = (zero-le, omega arith)
-
-pub returns-then-base-digit : goal.returns-then-base-digit
-returns-then-base-digit c =
-    let l = c.loop-i in
-    let a = c.args in
-    omega (arith, l.invariant.1, digit_count-stop a.base a.text.now l.i (omega arith) (omega (arith, c.digit.ensures)))
-
-pub loop-i-preserved : goal.loop-i-preserved
-loop-i-preserved c =
-    let l = c.loop-i in
-    let a = c.args in
-    (omega arith, omega (arith, l.invariant.1, digit_count-next a.base a.text.now l.i (omega arith) (omega (arith, c.digit.ensures))))
 
 pub returns : goal.returns
 returns c =
-    let l = c.loop-i in
     let a = c.args in
-    omega (arith, l.invariant.1, digit_count-end a.base a.text.now l.i (omega arith))
+    let p = position_from_yields_List (λ x. not (ltb (digit x) a.base)) _ _ c.position.result c.position.ensures.ran (YieldsList-from_slice a.text.now cc) (λ x b q k. search (rules, tests)) in
+    c.unwrap_or.ensures ∙ ap (λ r. unwrap_or r (length a.text.now)) p ∙ digit_count-position a.base a.text.now

@@ -6,7 +6,7 @@ use mathlib.Core.Path.{ap}
 use lib.ListN.{length}
 use Rattle.fltext.proofs.LimbLaws.{divided-none, partial_lt, divided-more, divided-quotient, divided-remainder}
 use Rattle.fltext.proofs.limbs.divide.Goals as goal
-use Rattle.fltext.proofs.limbs.divide.Goals.{After-wide, In-loop-j}
+use Rattle.fltext.proofs.limbs.divide.Goals.{After-from, In-loop-j}
 
 pub loop-j-init : goal.loop-j-init
 loop-j-init c = divided-none _ _ c.requires.0
@@ -14,11 +14,11 @@ loop-j-init c = divided-none _ _ c.requires.0
 in-now : (c : In-loop-j) → c.loop-j.j - 1 < length c.loop-j.x
 in-now c = omega (arith, c.loop-j.invariant.size, c.loop-j.invariant.within)
 
-limb-lt : (c : After-wide) → c.wide.result < 2 ^ 32
-limb-lt c = rw c.wide.ensures (search rules)
+limb-lt : (c : After-from) → c.from.result < 2 ^ 32
+limb-lt c = rw c.from.ensures (search rules)
 
 -- the remainder so far and the next limb
-total-lt : (c : After-wide) → c.loop-j.r * 2 ^ 32 + c.wide.result < 2 ^ 64
+total-lt : (c : After-from) → c.loop-j.r * 2 ^ 32 + c.from.result < 2 ^ 64
 total-lt c =
     let l = c.loop-j in
     omega (arith, l.invariant.small, c.requires.1, limb-lt c)
@@ -29,7 +29,7 @@ overflow_cast-x c = record { fits = partial_lt c.loop-j.invariant.small (limb-lt
 pub loop-j-preserved : goal.loop-j-preserved
 loop-j-preserved c =
     let l = c.loop-j in
-    divided-more (l.j - 1) _ l.invariant (omega arith) (ap (λ n. l.r * 2 ^ 32 + n) c.wide.ensures)
+    divided-more (l.j - 1) _ l.invariant (omega arith) (ap (λ n. l.r * 2 ^ 32 + n) c.from.ensures)
 
 pub returns : goal.returns
 returns c =

@@ -4,6 +4,3 @@ use Rattle.fltext.proofs.limbs.divide.Given as goal
 
 abbrev pub invariant-loop-j : goal.invariant-loop-j
 invariant-loop-j l = Divided l.initial.x l.b l.x l.r l.j
-
-abbrev pub decreases-loop-j : goal.decreases-loop-j
-decreases-loop-j l = l.j

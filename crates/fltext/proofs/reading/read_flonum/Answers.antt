@@ -6,10 +6,10 @@ use Rattle.fltext.proofs.reading.read_flonum.Goals as goal
 
 pub returns : goal.returns
 unfolding flonum_reading
-returns c = c.read_unsigned.ensures ∙ ap₂ unsigned_reading c.is_minus.ensures (after-sign _ c.sign_length-from.ensures)
+returns c = c.read_unsigned.ensures ∙ ap₂ unsigned_reading c.is_minus.ensures (after-sign _ c.sign_length.ensures)
 
 pub slice_bounds-read_unsigned-count : goal.slice_bounds-read_unsigned-count
-slice_bounds-read_unsigned-count c = sign-in _ c.sign_length-from.ensures
+slice_bounds-read_unsigned-count c = sign-in _ c.sign_length.ensures
 
 pub slice_bounds-read_unsigned-start : goal.slice_bounds-read_unsigned-start
-slice_bounds-read_unsigned-start c = sign-in _ c.sign_length-from.ensures
+slice_bounds-read_unsigned-start c = sign-in _ c.sign_length.ensures

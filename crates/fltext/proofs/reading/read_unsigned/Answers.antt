@@ -4,7 +4,7 @@ use mathlib.Core.Path.{sym, ap, ◌∙◌}
 use mathlib.Core.Bool.{true}
 use lib.ListN.{length}
 use borrow.Author.Rules.{part_to_end}
-use Rattle.fltext.specs.declared.FlonumReading.{FlonumReading}
+use Rattle.std.specs.Prelude.{Ok}
 use Rattle.fltext.specs.Readings.{number_reading, unsigned_reading}
 use Rattle.fltext.proofs.ReadingLaws.{hex-length}
 use Rattle.fltext.proofs.reading.read_unsigned.Goals as goal
@@ -12,12 +12,12 @@ use Rattle.fltext.proofs.reading.read_unsigned.Goals.{Then-is_hexadecimal}
 
 pub returns-then-is_infinite : goal.returns-then-is_infinite
 unfolding unsigned_reading
-returns-then-is_infinite c = rw (sym c.is_infinite.ensures ∙ c.if-is_infinite.true) (ap FlonumReading.Number c.infinity.ensures)
+returns-then-is_infinite c = rw (sym c.is_infinite.ensures ∙ c.if-is_infinite.true) (ap Ok c.infinity.ensures)
 
 pub returns-then-is_nan : goal.returns-then-is_nan
 unfolding unsigned_reading
 returns-then-is_nan c =
-    rw (sym c.is_infinite.ensures ∙ c.if-is_infinite.false, sym c.is_nan.ensures ∙ c.if-is_nan.true) (ap FlonumReading.Number c.the_nan.ensures)
+    rw (sym c.is_infinite.ensures ∙ c.if-is_infinite.false, sym c.is_nan.ensures ∙ c.if-is_nan.true) (ap Ok c.the_nan.ensures)
 
 within : (c : Then-is_hexadecimal) → 2 ≤ length c.args.text.now
 within c = hex-length _ (sym c.is_hexadecimal.ensures ∙ c.if-is_hexadecimal.true)

@@ -5,14 +5,14 @@ use Rattle.fltext.specs.Packing.{rounded_up}
 use Rattle.fltext.proofs.RoundLaws.{odd-tail}
 use Rattle.fltext.proofs.rounding.rounded_up.Goals as goal
 
-pub returns-then-not-half : goal.returns-then-not-half
+pub returns-in-true-true-clause-value : goal.returns-in-true-true-clause-value
 unfolding rounded_up
-returns-then-not-half c = record { value = rw (c.if-not-half.true) (omega arith); upper_bound = omega arith }
+returns-in-true-true-clause-value c = rw (c.in-true-true.is-0, c.in-true-true.is-1) refl
 
-pub returns-then-rest : goal.returns-then-rest
+pub returns-in-true-false-clause-value : goal.returns-in-true-false-clause-value
 unfolding rounded_up
-returns-then-rest c = record { value = rw (c.if-not-half.false, c.if-rest.true) refl; upper_bound = omega arith }
+returns-in-true-false-clause-value c = rw (c.in-true-false.is-0, c.in-true-false.is-1) (odd-tail c.args.q)
 
-pub returns : goal.returns
+pub returns-in-false-default-clause-value : goal.returns-in-false-default-clause-value
 unfolding rounded_up
-returns c = record { value = rw (c.if-not-half.false, c.if-rest.false) (odd-tail c.args.q); upper_bound = omega arith }
+returns-in-false-default-clause-value c = rw c.in-false-default.is-0 (omega arith)

@@ -1,7 +1,7 @@
--- `fltext::number::nearest_within` meets its contract. Assumes nothing.
+-- `fltext::number::Digits::nearest_within` meets its contract. Assumes nothing.
 use mathlib.Core.Path.{◌∙◌}
 use Rattle.fltext.proofs.NumberLaws.{quotient-bits}
-use Rattle.fltext.proofs.number.nearest_within.Goals as goal
+use Rattle.fltext.proofs.number.Digits.nearest_within.Goals as goal
 
 pub returns : goal.returns
 returns c =

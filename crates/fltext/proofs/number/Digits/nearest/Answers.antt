@@ -1,4 +1,4 @@
--- `fltext::number::nearest` meets its contract. Assumes nothing.
+-- `fltext::number::Digits::nearest` meets its contract. Assumes nothing.
 use Prim.Native.Nat.{ℕ, ◌≤◌}
 use native.Mathlib.Omega.{arith}
 use mathlib.Core.Path.{◌≡◌, sym, ap, subst, ◌∙◌}
@@ -10,8 +10,8 @@ use lib.Ieee.{binary64, of_bits, nan_bits}
 use Rattle.fltext.specs.Packing.{quotient_bits}
 use Rattle.fltext.proofs.RoundLaws.{nearest_bits-number}
 use Rattle.fltext.proofs.NumberLaws.{flonum-bits, cleared-part}
-use Rattle.fltext.proofs.number.nearest.Goals as goal
-use Rattle.fltext.proofs.number.nearest.Goals.{After-space-1}
+use Rattle.fltext.proofs.number.Digits.nearest.Goals as goal
+use Rattle.fltext.proofs.number.Digits.nearest.Goals.{After-space-1}
 
 -- the part of the limbs that is used
 part : (c : After-space-1) → let n = c.limb_count-n.result in length (take n c.limb_space-space.result) ≡ n
@@ -24,7 +24,6 @@ pub nearest_within-bits-requires : goal.nearest_within-bits-requires
 nearest_within-bits-requires c =
     let s = c.limb_space-space in
     record {
-      digits = c.requires.digits;
       cleared = cleared-part s.result (part c) c.limb_count-n.ensures.0 s.ensures.cleared.zeros;
       x_len_bound = subst (λ (k : ℕ). k ≤ 416) (sym (part c)) c.limb_count-n.ensures.1;
     }
@@ -35,4 +34,4 @@ float_from_bits-result c = subst (λ (n : ℕ). T (not (nan_bits binary64 n))) (
 
 pub returns : goal.returns
 returns c =
-    ap (of_bits binary64) c.nearest_within-bits.ensures ∙ flonum-bits _ _ _ _ _ _ c.places.ensures.value c.difference-power.ensures c.difference.ensures
+    ap (of_bits binary64) c.nearest_within-bits.ensures ∙ flonum-bits _ _ _ _ _ _ c.places.ensures.value c.saturating_sub-power.ensures c.saturating_sub.ensures
