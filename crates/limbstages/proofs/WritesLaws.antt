@@ -33,6 +33,10 @@ use Rattle.limbstages.proofs.StageLaws.{exited}
 pub writes_as : {o p : Outcome ℤ} {out out' : List ℕ} {first : ℕ} {r : Written} → o ≡ p → Writes p out first r out' → Writes o out first r out'
 writes_as {out} {out'} {first} {r} e w = subst (λ (q : Outcome ℤ). Writes q out first r out') (sym e) w
 
+-- the same answer, by another name
+pub writes_told : {o : Outcome ℤ} {out out' : List ℕ} {first : ℕ} {v w : Written} → w ≡ v → Writes o out first v out' → Writes o out first w out'
+writes_told {o} {out} {out'} {first} e h = subst (λ (w : Written). Writes o out first w out') (sym e) h
+
 -- by what is stored
 from-stored : {o : Outcome ℤ} {out out' : List ℕ} {first : ℕ} {r : Written} (p : Outcome (List ℕ)) → stored o out first ≡ p
     → r ≡ record { refusal = refusal_of p; length = count_of p } → out' ≡ afterwards p out first → Writes o out first r out'

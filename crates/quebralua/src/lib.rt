@@ -1,6 +1,6 @@
 // The C library: the fixnum calls, the limb calls, the conversions, the fold, stored rules and the flonum calls under plain C names, with the contract of each.
 // include/quebralua.h is the header. In C a slice is a pointer and a length.
-#![tactic(auto)]
+#![tactic(auto, using(limbstages::proofs::WritesLaws::writes_told))]
 
 ghost use Rattle.std.specs.Prelude.{◌≡◌, ◌&&◌, ◌||◌, [], ◌∷◌};
 ghost use Rattle.std.specs.Bool.{xor};
@@ -39,7 +39,7 @@ pub extern "C" fn ql_fixnum(
 pub extern "C" fn ql_bitwise_not(x: &[u32], out: &mut [u32], first: u64) -> Written
     ensures { Writes (not_outcome x.now) out.old first result out.new }
 {
-    limbs::bitwise_not(x, out, first)
+    limbs::bitwise_not(x, out, first).into()
 }
 
 // bitwise-and of two
@@ -47,7 +47,7 @@ pub extern "C" fn ql_bitwise_not(x: &[u32], out: &mut [u32], first: u64) -> Writ
 pub extern "C" fn ql_bitwise_and(x: &[u32], y: &[u32], out: &mut [u32], first: u64) -> Written
     ensures { Writes (bitwise_outcome ◌&&◌ x.now y.now) out.old first result out.new }
 {
-    limbs::bitwise_and(x, y, out, first)
+    limbs::bitwise_and(x, y, out, first).into()
 }
 
 // bitwise-ior of two
@@ -55,7 +55,7 @@ pub extern "C" fn ql_bitwise_and(x: &[u32], y: &[u32], out: &mut [u32], first: u
 pub extern "C" fn ql_bitwise_ior(x: &[u32], y: &[u32], out: &mut [u32], first: u64) -> Written
     ensures { Writes (bitwise_outcome ◌||◌ x.now y.now) out.old first result out.new }
 {
-    limbs::bitwise_ior(x, y, out, first)
+    limbs::bitwise_ior(x, y, out, first).into()
 }
 
 // bitwise-xor of two
@@ -63,7 +63,7 @@ pub extern "C" fn ql_bitwise_ior(x: &[u32], y: &[u32], out: &mut [u32], first: u
 pub extern "C" fn ql_bitwise_xor(x: &[u32], y: &[u32], out: &mut [u32], first: u64) -> Written
     ensures { Writes (bitwise_outcome xor x.now y.now) out.old first result out.new }
 {
-    limbs::bitwise_xor(x, y, out, first)
+    limbs::bitwise_xor(x, y, out, first).into()
 }
 
 // bitwise-if
@@ -77,7 +77,7 @@ pub extern "C" fn ql_bitwise_if(
 ) -> Written
     ensures { Writes (if_outcome x.now y.now z.now) out.old first result out.new }
 {
-    limbs::bitwise_if(x, y, z, out, first)
+    limbs::bitwise_if(x, y, z, out, first).into()
 }
 
 // bitwise-copy-bit
@@ -91,7 +91,7 @@ pub extern "C" fn ql_bitwise_copy_bit(
 ) -> Written
     ensures { Writes (copy_bit_outcome x.now position bit) out.old first result out.new }
 {
-    limbs::bitwise_copy_bit(x, position, bit, out, first)
+    limbs::bitwise_copy_bit(x, position, bit, out, first).into()
 }
 
 // bitwise-bit-field
@@ -105,7 +105,7 @@ pub extern "C" fn ql_bitwise_bit_field(
 ) -> Written
     ensures { Writes (bit_field_outcome x.now start end) out.old first result out.new }
 {
-    limbs::bitwise_bit_field(x, start, end, out, first)
+    limbs::bitwise_bit_field(x, start, end, out, first).into()
 }
 
 // bitwise-copy-bit-field
@@ -120,7 +120,7 @@ pub extern "C" fn ql_bitwise_copy_bit_field(
 ) -> Written
     ensures { Writes (copy_bit_field_outcome x.now start end y.now) out.old first result out.new }
 {
-    limbs::bitwise_copy_bit_field(x, start, end, y, out, first)
+    limbs::bitwise_copy_bit_field(x, start, end, y, out, first).into()
 }
 
 // bitwise-arithmetic-shift
@@ -128,7 +128,7 @@ pub extern "C" fn ql_bitwise_copy_bit_field(
 pub extern "C" fn ql_bitwise_shift(x: &[u32], distance: i64, out: &mut [u32], first: u64) -> Written
     ensures { Writes (shift_outcome x.now distance) out.old first result out.new }
 {
-    limbs::bitwise_shift(x, distance, out, first)
+    limbs::bitwise_shift(x, distance, out, first).into()
 }
 
 // bitwise-arithmetic-shift-left
@@ -141,7 +141,7 @@ pub extern "C" fn ql_bitwise_shift_left(
 ) -> Written
     ensures { Writes (shift_left_outcome x.now distance) out.old first result out.new }
 {
-    limbs::bitwise_shift_left(x, distance, out, first)
+    limbs::bitwise_shift_left(x, distance, out, first).into()
 }
 
 // bitwise-arithmetic-shift-right
@@ -154,7 +154,7 @@ pub extern "C" fn ql_bitwise_shift_right(
 ) -> Written
     ensures { Writes (shift_right_outcome x.now distance) out.old first result out.new }
 {
-    limbs::bitwise_shift_right(x, distance, out, first)
+    limbs::bitwise_shift_right(x, distance, out, first).into()
 }
 
 // bitwise-rotate-bit-field
@@ -169,7 +169,7 @@ pub extern "C" fn ql_bitwise_rotate(
 ) -> Written
     ensures { Writes (rotate_outcome x.now start end count) out.old first result out.new }
 {
-    limbs::bitwise_rotate(x, start, end, count, out, first)
+    limbs::bitwise_rotate(x, start, end, count, out, first).into()
 }
 
 // bitwise-reverse-bit-field
@@ -183,7 +183,7 @@ pub extern "C" fn ql_bitwise_reverse(
 ) -> Written
     ensures { Writes (reverse_outcome x.now start end) out.old first result out.new }
 {
-    limbs::bitwise_reverse(x, start, end, out, first)
+    limbs::bitwise_reverse(x, start, end, out, first).into()
 }
 
 // The shortest form of limbs that may be padded
@@ -191,7 +191,7 @@ pub extern "C" fn ql_bitwise_reverse(
 pub extern "C" fn ql_bitwise_trim(x: &[u32], out: &mut [u32], first: u64) -> Written
     ensures { Writes (trim_outcome x.now) out.old first result out.new }
 {
-    limbs::bitwise_trim(x, out, first)
+    limbs::bitwise_trim(x, out, first).into()
 }
 
 // bitwise-bit-count
@@ -199,7 +199,7 @@ pub extern "C" fn ql_bitwise_trim(x: &[u32], out: &mut [u32], first: u64) -> Wri
 pub extern "C" fn ql_bitwise_bit_count(x: &[u32]) -> Number
     ensures { result ≡ number (bit_count_outcome x.now) }
 {
-    limbs::bitwise_bit_count(x)
+    limbs::bitwise_bit_count(x).into()
 }
 
 // bitwise-length
@@ -207,7 +207,7 @@ pub extern "C" fn ql_bitwise_bit_count(x: &[u32]) -> Number
 pub extern "C" fn ql_bitwise_length(x: &[u32]) -> Number
     ensures { result ≡ number (length_outcome x.now) }
 {
-    limbs::bitwise_length(x)
+    limbs::bitwise_length(x).into()
 }
 
 // bitwise-first-bit-set
@@ -215,7 +215,7 @@ pub extern "C" fn ql_bitwise_length(x: &[u32]) -> Number
 pub extern "C" fn ql_bitwise_first_bit_set(x: &[u32]) -> Number
     ensures { result ≡ number (first_bit_set_outcome x.now) }
 {
-    limbs::bitwise_first_bit_set(x)
+    limbs::bitwise_first_bit_set(x).into()
 }
 
 // bitwise-bit-set?
@@ -223,7 +223,7 @@ pub extern "C" fn ql_bitwise_first_bit_set(x: &[u32]) -> Number
 pub extern "C" fn ql_bitwise_bit_set(x: &[u32], position: i64) -> Number
     ensures { result ≡ number (bit_set_outcome x.now position) }
 {
-    limbs::bitwise_bit_set(x, position)
+    limbs::bitwise_bit_set(x, position).into()
 }
 
 // Limbs as a fixnum at a width
@@ -231,7 +231,7 @@ pub extern "C" fn ql_bitwise_bit_set(x: &[u32], position: i64) -> Number
 pub extern "C" fn ql_limbs_to_fixnum(width: u64, x: &[u32]) -> Number
     ensures { result ≡ number (to_fixnum_outcome width x.now) }
 {
-    convert::limbs_to_fixnum(width, x)
+    convert::limbs_to_fixnum(width, x).into()
 }
 
 // A fixnum at a width as limbs
@@ -239,5 +239,5 @@ pub extern "C" fn ql_limbs_to_fixnum(width: u64, x: &[u32]) -> Number
 pub extern "C" fn ql_fixnum_to_limbs(width: u64, n: i64, out: &mut [u32], first: u64) -> Written
     ensures { Writes (to_limbs_outcome width n) out.old first result out.new }
 {
-    convert::fixnum_to_limbs(width, n, out, first)
+    convert::fixnum_to_limbs(width, n, out, first).into()
 }
