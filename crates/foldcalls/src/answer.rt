@@ -1,53 +1,47 @@
 // The answer to a fold: an identifier, or why there is none.
-use super::explain::put_refused_opening;
-use super::settings::{Settings, open, open_at};
-use super::widths::put_lines;
-use fold::{Fold, read};
-use fxtable::width::LEAST_WIDTH;
-use line::reply::{Reply, done, refused};
-use line::trouble::put_file_name;
-use line::word;
-use output::{put, put_both};
+use super::explain::{Reason, RefusedOpening};
+use super::settings::Settings;
+use super::widths::print_widths;
+use fold::{Fold, Refused, read};
+use line::trouble::{Shown, Status};
+use output::buffer::Output;
+use output::numerals::Both;
+use std::fmt;
 
-// The end of a line, with two blanks and the name of a file, a word of the command line, in front where there is one.
-pub fn put_ending(line: &[u8], file: usize, out: &mut [u8], at: usize) -> usize {
-    if file == 0 {
-        return put(b"\n", out, at);
+// The name of a file behind an answer, after two blanks, where it is to stand there.
+#[derive(Clone, Copy)]
+pub struct Behind<'a>(pub Option<&'a [u8]>);
+
+impl<'a> fmt::Display for Behind<'a> {
+    fn fmt<W: fmt::Write>(&self, f: &mut fmt::Formatter<W>) -> fmt::Result {
+        match self.0 {
+            Some(name) => write!(f, "  {}", Shown::file_name(name)),
+            None => Ok(()),
+        }
     }
-    let word = word(line, file);
-    let start = word.start;
-    let end = word.end;
-    let at = put(b"  ", out, at);
-    let at = put_file_name(&line[start..end], out, at);
-    put(b"\n", out, at)
 }
 
-// A fold that is read.
-pub fn reply_identifier(
-    settings: Settings,
-    f: Fold,
-    line: &[u8],
-    file: usize,
-    out: &mut [u8],
-) -> Reply {
-    let identifier = read(f).value;
-    if !settings.every {
-        let at = put_both(identifier, out, 0);
-        return done(put_ending(line, file, out, at));
+// A fold that is read. Its record is open.
+pub fn reply_identifier(settings: Settings, f: Fold, behind: Behind, out: &mut Output) -> Status {
+    let identifier = read(f).unwrap_or(0);
+    if settings.width.is_none() {
+        return print_widths(settings, identifier, behind, out);
     }
-    let filled = put_lines(settings, identifier, line, file, out);
-    if open_at(settings, LEAST_WIDTH).opened.refusal == 0 {
-        done(filled)
-    } else {
-        refused(filled)
-    }
+    out.print(format_args!("{}{behind}\n", Both(identifier)));
+    Status::Done
 }
 
 // A fold that is not opened, at its width or at any.
-pub fn reply_unopened(settings: Settings, out: &mut [u8]) -> Reply {
-    if settings.every {
-        return refused(put_lines(settings, 0, b"", 0, out));
+pub fn reply_unopened(settings: Settings, refused: Refused, out: &mut Output) -> Status {
+    match settings.width {
+        Some(width) => out.print(RefusedOpening(Reason {
+            settings,
+            width,
+            refused,
+        })),
+        None => {
+            let _ = print_widths(settings, 0, Behind(None), out);
+        }
     }
-    let opened = open(settings).opened;
-    refused(put_refused_opening(settings, opened, out))
+    Status::Refused
 }

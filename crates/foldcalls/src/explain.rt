@@ -1,62 +1,84 @@
 // Why an opening or a piece is refused, in words.
 use super::settings::{ROTATE, Settings};
-use fold::Opened;
-use fxcalls::domains::put_broken_rule;
-use fxcalls::explain::{put_range, put_width_limit};
-use line::refusal::{argument_at, put_is, put_refused};
-use line::roles::put_role;
-use output::put;
+use fold::Refused;
+use fxcalls::domains::broken_rule;
+use fxcalls::explain::{Range, width_limit};
+use line::refusal;
+use line::refusal::argument_at;
+use line::roles::role;
+use outcomes::refusal::Refusal;
+use std::fmt;
 
-const NO_FIXNUM: u64 = 4;
+// The reason of a refused opening: `the start is -1: it must be from 0 to width - 1`. It holds for every width with the same answer.
+#[derive(Clone, Copy)]
+pub struct Reason {
+    pub settings: Settings,
+    pub width: u64,
+    pub refused: Refused,
+}
 
-// `the start`, by its place in an opening.
-fn put_part(place: u64, out: &mut [u8], at: usize) -> usize {
-    if place == 1 {
-        put(b"the accumulator", out, at)
-    } else {
-        put_role(ROTATE, place, out, at)
+impl fmt::Display for Reason {
+    fn fmt<W: fmt::Write>(&self, f: &mut fmt::Formatter<W>) -> fmt::Result {
+        let Refused { refusal, place } = self.refused;
+        if place == 0 {
+            return write!(f, "{}", width_limit(self.width));
+        }
+        let part = role(ROTATE, place).unwrap_or("the accumulator");
+        let value = argument_at(place, self.settings.args);
+        let rule = broken_rule(ROTATE, refusal, place);
+        write!(f, "{part} is {value}: it {rule}")
     }
 }
 
-// The reason of a refused opening. It holds for every width with the same answer.
-pub fn put_reason(
-    settings: Settings,
+// The end of a refused line: the fixnums of the width where the reason is about them.
+#[derive(Clone, Copy)]
+struct Ending {
     width: u64,
-    opened: Opened,
-    out: &mut [u8],
-    at: usize,
-) -> usize {
-    let place = opened.place;
-    if place == 0 {
-        return put_width_limit(width, out, at);
-    }
-    let args = settings.args;
-    let at = put_part(place, out, at);
-    let at = put_is(argument_at(place, args), out, at);
-    put_broken_rule(ROTATE, opened.refusal, place, out, at)
+    refusal: Refusal,
 }
 
-// The end of a refused line, with the fixnums of the width where the reason is about them.
-fn put_end(width: u64, refusal: u64, out: &mut [u8], at: usize) -> usize {
-    if refusal == NO_FIXNUM {
-        put_range(width, out, at)
-    } else {
-        put(b"\n", out, at)
+impl fmt::Display for Ending {
+    fn fmt<W: fmt::Write>(&self, f: &mut fmt::Formatter<W>) -> fmt::Result {
+        if self.refusal == Refusal::NotFixnum {
+            write!(f, "{}", Range(self.width))
+        } else {
+            Ok(())
+        }
     }
 }
 
-// The line of a refused opening.
-pub fn put_refused_opening(settings: Settings, opened: Opened, out: &mut [u8]) -> usize {
-    let at = put_refused(opened.refusal, out, 0);
-    let at = put_reason(settings, settings.width, opened, out, at);
-    put_end(settings.width, opened.refusal, out, at)
+// The line of an opening that is refused at a width.
+#[derive(Clone, Copy)]
+pub struct RefusedOpening(pub Reason);
+
+impl fmt::Display for RefusedOpening {
+    fn fmt<W: fmt::Write>(&self, f: &mut fmt::Formatter<W>) -> fmt::Result {
+        let reason = self.0;
+        let width = reason.width;
+        let refusal = reason.refused.refusal;
+        let head = refusal::Refused(refusal);
+        writeln!(f, "{head}{reason}{}", Ending { width, refusal })
+    }
 }
 
 // The line of a piece that is no fixnum.
-pub fn put_refused_piece(width: u64, refusal: u64, piece: i64, out: &mut [u8]) -> usize {
-    let at = put_refused(refusal, out, 0);
-    let at = put(b"the piece", out, at);
-    let at = put_is(piece, out, at);
-    let at = put_broken_rule(ROTATE, refusal, 1, out, at);
-    put_end(width, refusal, out, at)
+#[derive(Clone, Copy)]
+pub struct RefusedPiece {
+    pub width: u64,
+    pub refusal: Refusal,
+    pub piece: i64,
+}
+
+impl fmt::Display for RefusedPiece {
+    fn fmt<W: fmt::Write>(&self, f: &mut fmt::Formatter<W>) -> fmt::Result {
+        let RefusedPiece {
+            width,
+            refusal,
+            piece,
+        } = *self;
+        let head = refusal::Refused(refusal);
+        let rule = broken_rule(ROTATE, refusal, 1);
+        let ending = Ending { width, refusal };
+        writeln!(f, "{head}the piece is {piece}: it {rule}{ending}")
+    }
 }

@@ -2,7 +2,7 @@
 #![tactic(auto)]
 
 pub mod answer;
-pub mod explain;
+mod explain;
 pub mod join;
 pub mod settings;
 mod widths;

@@ -1,39 +1,107 @@
 // `fold` and `widths fold`: standard input, or each of some files, folded chunk by chunk.
 #![tactic(auto)]
 
-mod files;
-mod input;
-
-use files::run_files;
-use foldcalls::answer::reply_unopened;
-use foldcalls::settings::{open, take_settings};
-use input::run_input;
-use line::count_past;
-use line::reply::trouble;
+use fold::{Fold, chunk};
+use foldcalls::answer::{Behind, reply_identifier, reply_unopened};
+use foldcalls::settings::Settings;
+use line::Line;
+use line::trouble::Status;
+use output::buffer::Output;
+use std::io;
+use std::io::Read;
 use std::rt::Files;
-use streams::write::write_out;
+use streams::Console;
+
+// All bytes of an input, into a record that is open.
+fn fold_all<R: Read>(reader: &mut R, first: Fold) -> io::Result<Fold> {
+    let mut buffer = output::large_buffer();
+    let mut fold = first;
+    for _ in 0..u64::MAX {
+        let n = reader.read(&mut buffer)?;
+        if n == 0 {
+            break;
+        }
+        fold = chunk(fold, &buffer[..n]).unwrap_or(fold);
+    }
+    Ok(fold)
+}
+
+// All bytes of a file. It is closed before anything is written: where standard output is closed, the file may have its number.
+fn fold_file<R: Files + Input, E>(
+    console: &Console<R, E>,
+    name: &[u8],
+    first: Fold,
+) -> io::Result<Fold> {
+    let mut file = console.open_file(name)?;
+    fold_all(&mut file, first)
+}
+
+// Folds a file, and writes its answer or says why it cannot be read.
+fn run_file<R: Files + Input + Print, E: Print>(
+    console: &Console<R, E>,
+    name: &[u8],
+    settings: Settings,
+    first: Fold,
+    behind: Behind,
+    out: &mut Output,
+) -> io::Result<Status> {
+    let fold = fold_file(console, name, first).inspect_err(|error| console.report_file(
+        name, *error,
+    ))?;
+    out.clear();
+    let status = reply_identifier(settings, fold, behind, out);
+    Ok(console.write_reply(status, out.text()))
+}
+
+// Each file that the line names past the first few words. The next is folded too where one cannot be read, but not where an answer cannot
+// be written.
+fn run_files<R: Files + Input + Print, E: Print>(
+    console: &Console<R, E>,
+    line: Line,
+    few: usize,
+    settings: Settings,
+    first: Fold,
+    out: &mut Output,
+) -> Status {
+    let mut status = Status::Done;
+    for i in few..line.count() {
+        let Some(name) = line.word(i + 1) else {
+            break;
+        };
+        let behind = Behind((1 < line.count_past(few)).then_some(name));
+        match run_file(console, name, settings, first, behind, out) {
+            Ok(Status::Trouble) => return Status::Trouble,
+            Ok(written) => status = status.max(written),
+            Err(_) => status = Status::Trouble,
+        }
+    }
+    status
+}
 
 // Answers the words of a fold, and gives the exit status. Nothing is read where a word cannot be read or opening is refused.
-pub fn run_fold<R: Files + Input + Print>(
-    rt: &R,
-    errors: &impl Print,
-    line: &[u8],
-    out: &mut [u8],
-) -> u64 {
-    let settings = take_settings(line);
-    if settings.bad != 0 {
-        let expected = settings.expected;
-        let reply = trouble(line, settings.bad, expected, out);
-        return write_out(rt, errors, reply, out);
-    }
-    if open(settings).opened.refusal != 0 {
-        let reply = reply_unopened(settings, out);
-        return write_out(rt, errors, reply, out);
-    }
-    let mut buffer = output::large_buffer();
-    if count_past(line, settings.before) == 0 {
-        run_input(rt, errors, settings, &mut buffer, out)
+pub fn run_fold<R: Files + Input + Print, E: Print>(
+    console: &Console<R, E>,
+    line: Line,
+    out: &mut Output,
+) -> Status {
+    let (settings, few) = match Settings::read(line) {
+        Ok(read) => read,
+        Err(trouble) => {
+            console.report(trouble.about(line));
+            return Status::Trouble;
+        }
+    };
+    let first = match settings.open() {
+        Ok(first) => first,
+        Err(refused) => {
+            let status = reply_unopened(settings, refused, out);
+            return console.write_reply(status, out.text());
+        }
+    };
+    if line.count_past(few) == 0 {
+        let answered = run_file(console, b"-", settings, first, Behind(None), out);
+        answered.unwrap_or(Status::Trouble)
     } else {
-        run_files(rt, errors, line, settings, &mut buffer, out)
+        run_files(console, line, few, settings, first, out)
     }
 }
