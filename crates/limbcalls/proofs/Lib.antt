@@ -1,1 +1,1 @@
-pub mod TextCounts
+pub mod Prefixes

@@ -3,85 +3,84 @@ ghost use Rattle.std.specs.Prelude.{◌≤◌};
 
 use fxtable::domains::Domain;
 use limbstages::check::{LAST_BIT, LAST_END};
-use line::refusal::put_argument;
+use line::refusal::{Argument, Counts};
 use line::roles::domain_of;
-use output::{put, put_decimal};
+use names::Bitwise;
+use std::fmt;
 
 // How many arguments an operation takes.
-pub fn arity(index: u64) -> usize
-    ensures { result ≤ 4 }
-{
-    match index {
-        1 | 6..=8 => 1,
-        2..=4 | 9 | 13..=15 => 2,
-        5 | 10 | 11 | 17 => 3,
-        _ => 4,
+pub fn arity(operation: Bitwise) -> usize {
+    match operation {
+        Bitwise::Not | Bitwise::BitCount | Bitwise::Length | Bitwise::FirstBitSet => 1,
+        Bitwise::And | Bitwise::Ior | Bitwise::Xor | Bitwise::BitSet => 2,
+        Bitwise::ArithmeticShift | Bitwise::ArithmeticShiftLeft | Bitwise::ArithmeticShiftRight =>
+            2,
+        Bitwise::If | Bitwise::CopyBit | Bitwise::BitField | Bitwise::ReverseBitField => 3,
+        Bitwise::CopyBitField | Bitwise::RotateBitField => 4,
     }
 }
 
-// How many of them are numbers and not operands. They follow the first operand.
-pub fn numbers_of(index: u64) -> usize
+pub fn counts(operation: Bitwise) -> Counts {
+    let n = arity(operation) as u64;
+    Counts { least: n, most: n }
+}
+
+// How many of the arguments are numbers and not operands. They follow the first operand.
+pub fn numbers_of(operation: Bitwise) -> usize
     ensures { result ≤ 3 }
 {
-    match index {
-        9 | 13..=15 => 1,
-        10..=12 | 17 => 2,
-        16 => 3,
+    match operation {
+        Bitwise::BitSet => 1,
+        Bitwise::ArithmeticShift | Bitwise::ArithmeticShiftLeft | Bitwise::ArithmeticShiftRight =>
+            1,
+        Bitwise::CopyBit | Bitwise::BitField | Bitwise::CopyBitField | Bitwise::ReverseBitField =>
+            2,
+        Bitwise::RotateBitField => 3,
         _ => 0,
     }
 }
 
-// The fixnum operation that a bitwise operation is at every width: its code, from the number of the bitwise one.
-pub fn likeness(index: u64) -> u64 {
-    if index <= 17 { index + 24 } else { 0 }
+// The rule of a number, by its place among the arguments: `must be from start to 32767`.
+#[derive(Clone, Copy)]
+pub struct Rule {
+    pub operation: Bitwise,
+    pub place: u64,
 }
 
-// `must be from start to 32767`
-fn put_range(first: &[u8], last: i64, out: &mut [u8], at: usize) -> usize {
-    let at = put(b"must be from ", out, at);
-    let at = put(first, out, at);
-    let at = put(b" to ", out, at);
-    put_decimal(last, out, at)
-}
-
-// The rule of a position or a start.
-fn put_position_rule(index: u64, out: &mut [u8], at: usize) -> usize {
-    match index {
-        9 => put(b"must be at least 0", out, at),
-        10 => put_range(b"0", LAST_BIT, out, at),
-        _ => put_range(b"0", LAST_END, out, at),
+impl Rule {
+    fn domain(self) -> Domain {
+        domain_of(self.operation.code(), self.place)
     }
 }
 
-// The rule of a number, by its place among the arguments.
-pub fn put_rule(index: u64, place: u64, out: &mut [u8], at: usize) -> usize {
-    let domain = domain_of(likeness(index), place);
-    match domain {
-        Domain::Position => put_position_rule(index, out, at),
-        Domain::FieldEnd => put_range(b"start", LAST_END, out, at),
-        Domain::NewBit => put(b"must be 0 or 1", out, at),
-        _ => put(b"must be at least 0", out, at),
-    }
-}
-
-// `argument 2, the position, must be at least 0`, on a line of its own, unless the argument is an operand, or a signed distance, which may be
-// any number.
-fn put_domain(index: u64, place: u64, out: &mut [u8], at: usize) -> usize {
-    let domain = domain_of(likeness(index), place);
-    match domain {
-        Domain::Fixnum | Domain::SignedDistance => at,
-        _ => {
-            let at = put_argument(likeness(index), place, out, at);
-            let at = put(b" ", out, at);
-            let at = put_rule(index, place, out, at);
-            put(b"\n", out, at)
+impl fmt::Display for Rule {
+    fn fmt<W: fmt::Write>(&self, f: &mut fmt::Formatter<W>) -> fmt::Result {
+        match (self.domain(), self.operation) {
+            (Domain::Position, Bitwise::BitSet) => write!(f, "must be at least 0"),
+            (Domain::Position, Bitwise::CopyBit) => write!(f, "must be from 0 to {LAST_BIT}"),
+            (Domain::Position, _) => write!(f, "must be from 0 to {LAST_END}"),
+            (Domain::FieldEnd, _) => write!(f, "must be from start to {LAST_END}"),
+            (Domain::NewBit, _) => write!(f, "must be 0 or 1"),
+            _ => write!(f, "must be at least 0"),
         }
     }
 }
 
-// The domains of an operation's numbers.
-pub fn put_bitwise_domains(index: u64, out: &mut [u8], at: usize) -> usize {
-    let at = put_domain(index, 2, out, at);
-    let at = put_domain(index, 3, out, at);
-    put_domain(index, 4, out, at)
+// The domains of an operation's numbers: `argument 2, the position, must be at least 0`, each on a line of its own. An operand has none, nor
+// has a signed distance, which may be any number.
+#[derive(Clone, Copy)]
+pub struct BitwiseDomains(pub Bitwise);
+
+impl fmt::Display for BitwiseDomains {
+    fn fmt<W: fmt::Write>(&self, f: &mut fmt::Formatter<W>) -> fmt::Result {
+        let operation = self.0;
+        let code = operation.code();
+        for place in 2..=4 {
+            let rule = Rule { operation, place };
+            if !matches!(rule.domain(), Domain::Fixnum | Domain::SignedDistance) {
+                writeln!(f, "{} {rule}", Argument { code, place })?;
+            }
+        }
+        Ok(())
+    }
 }

@@ -154,7 +154,7 @@ pub enum Bitwise {
 }
 
 impl Bitwise {
-    // They have no codes: here they are in the order of the fixnum operations that they are at every width, codes 25 to 41.
+    // In the order of the fixnum operations that they are at every width, codes 25 to 41.
     pub const ALL: [Bitwise; 17] = [
         Bitwise::Not,
         Bitwise::And,
@@ -174,6 +174,17 @@ impl Bitwise {
         Bitwise::RotateBitField,
         Bitwise::ReverseBitField,
     ];
+
+    // The code of the fixnum operation that it is at every width.
+    pub fn code(self) -> u64 {
+        self as u64 + 25
+    }
+
+    // The operation that the fixnum operation with a code is at every width.
+    pub fn at_code(code: u64) -> Option<Bitwise> {
+        let index = code.checked_sub(25)?;
+        Bitwise::ALL.get(index as usize).copied()
+    }
 
     fn entry(self) -> (&'static str, &'static str) {
         match self {

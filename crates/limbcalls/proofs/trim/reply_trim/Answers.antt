@@ -1,9 +1,10 @@
--- `trim::reply_trim`: the limbs that the call is given lie within the buffer. Assumes nothing.
-use native.Mathlib.Omega.{arith}
-use mathlib.Core.Path.{sym}
-use lib.Seq.{length-take-le}
+-- `trim::reply_trim`: the shortest limbs lie within the buffer. Assumes nothing.
+use Rattle.std.proofs.lemmas.Result.{IfOk-at_ok}
+use Rattle.limbcalls.proofs.Prefixes.{written}
 use Rattle.limbcalls.proofs.trim.reply_trim.Goals as goal
 
-pub slice_bounds-reply_limbs-end : goal.slice_bounds-reply_limbs-end
-slice_bounds-reply_limbs-end c =
-    sym (length-take-le c.given-n.result c.take_limbs-bad.new.x (omega arith))
+pub slice_bounds-space-end : goal.slice_bounds-space-end
+slice_bounds-space-end c = (IfOk-at_ok _ c.in-Ok.is (written _ c.bitwise_trim.ensures)).0
+
+pub slice_bounds-shortest-end : goal.slice_bounds-shortest-end
+slice_bounds-shortest-end c = (IfOk-at_ok _ c.in-Ok.is (written _ c.bitwise_trim.ensures)).1
