@@ -1,141 +1,144 @@
 // The item of a rule that offends: which one it is, and where it begins.
-use super::walk::{MOST_OPEN, Walk, less, walk_form};
-use names::{Table, put_name};
-use output::{put, put_natural};
+ghost use Rattle.std.specs.Prelude.{◌<◌, IfSome, length};
+
+use super::walk::{Walk, walk_form};
+use names::FixnumName;
 use rulereader::heads::is_stored_code;
 use rulereader::is_stored_width;
-use rulereader::numbers::{Number, read_number};
+use rulereader::numbers::read_number;
+use std::fmt;
+
+// A form as a part of a rule: the whole form, or an argument of a call.
+#[derive(Clone, Copy, Debug, PartialEq, Eq)]
+pub enum Part {
+    Whole,
+    Argument { place: u64, code: u64 },
+}
 
 // `Form` is a form that is nested too deep, and `After` what stands after the rule's form.
-#[derive(Clone, Copy)]
-pub enum Kind {
+#[derive(Clone, Copy, Debug, PartialEq, Eq)]
+pub enum Item {
     Width,
-    Tag,
+    Tag(Part),
     Constant,
     Index,
     Code,
-    Count,
-    Form,
+    Count { code: u64 },
+    Form(Part),
     After,
 }
 
-// Where the item begins. The code of its call: the call that an argument count is of, or that a form is an argument of, 0 where it is
-// the whole form. Which argument the form is.
-#[derive(Clone, Copy)]
-pub struct Item {
-    pub kind: Kind,
+// An item and where it begins.
+#[derive(Clone, Copy, Debug, PartialEq, Eq)]
+pub struct Placed {
+    pub item: Item,
     pub start: usize,
-    pub code: u64,
-    pub argument: u64,
 }
 
-// A number of one group, or 128.
-fn group_at(s: &[u8], at: usize) -> u64 {
-    if s.len() < at {
-        return 128;
-    }
-    match read_number(s, at) {
-        Number::Value(n) => n,
-        Number::Offends(_) => 128,
-    }
-}
-
-fn after_tag(kind: Kind, start: usize, code: u64) -> Item {
-    Item {
-        kind,
-        start,
-        code,
-        argument: 0,
-    }
-}
-
-// The form that a walk has come to, or its tag.
-fn form_item(kind: Kind, walk: Walk) -> Item {
-    let open = walk.open;
-    let start = walk.at;
-    if 0 < open {
-        let top = open - 1;
-        if top < MOST_OPEN {
-            let left = less(walk.left[top], 1);
-            return Item {
-                kind,
-                start,
-                code: walk.codes[top],
-                argument: less(walk.counts[top], left),
-            };
+// `the form`, or `argument 2 of fxxor`
+impl fmt::Display for Part {
+    fn fmt<W: fmt::Write>(&self, f: &mut fmt::Formatter<W>) -> fmt::Result {
+        match self {
+            Part::Whole => write!(f, "the form"),
+            Part::Argument { place, code } => {
+                write!(f, "argument {place} of {}", FixnumName(*code))
+            }
         }
     }
-    after_tag(kind, start, 0)
+}
+
+// `the argument count of fxand`
+impl fmt::Display for Item {
+    fn fmt<W: fmt::Write>(&self, f: &mut fmt::Formatter<W>) -> fmt::Result {
+        match self {
+            Item::Width => write!(f, "the width"),
+            Item::Tag(part) => write!(f, "the tag of {part}"),
+            Item::Constant => write!(f, "a constant"),
+            Item::Index => write!(f, "the index of an input"),
+            Item::Code => write!(f, "the code of a call"),
+            Item::Count { code } => write!(f, "the argument count of {}", FixnumName(*code)),
+            Item::Form(part) => write!(f, "{part}"),
+            Item::After => write!(f, "after the form"),
+        }
+    }
+}
+
+// The number of one group at an offset.
+fn group_at(rule: &[u8], at: usize) -> Option<u64>
+    ensures { IfSome result (λ _. at < length rule.now) }
+{
+    if at < rule.len() {
+        read_number(rule, at).ok()
+    } else {
+        None
+    }
+}
+
+// The form that a walk has come to.
+fn part_at(walk: &Walk) -> Part {
+    match walk.innermost() {
+        Some(call) => Part::Argument {
+            place: call.count.saturating_sub(call.left.saturating_sub(1)),
+            code: call.code,
+        },
+        None => Part::Whole,
+    }
 }
 
 // The code of a call, or its argument count where the code is good.
-fn call_item(s: &[u8], at: usize) -> Item {
-    let code = group_at(s, at);
-    if at < s.len() {
-        if is_stored_code(code) {
-            return after_tag(Kind::Count, at + 1, code);
-        }
+fn call_item(rule: &[u8], start: usize) -> Placed {
+    match group_at(rule, start) {
+        Some(code) if is_stored_code(code) => Placed {
+            item: Item::Count { code },
+            start: start + 1,
+        },
+        _ => Placed {
+            item: Item::Code,
+            start,
+        },
     }
-    after_tag(Kind::Code, at, 0)
 }
 
 // The item of a head that offends.
-fn head_item(s: &[u8], walk: Walk) -> Item {
-    let at = walk.at;
-    if s.len() <= at {
-        return form_item(Kind::Tag, walk);
-    }
-    match group_at(s, at) {
-        0 => after_tag(Kind::Constant, at + 1, 0),
-        1 => after_tag(Kind::Index, at + 1, 0),
-        2 => call_item(s, at + 1),
-        _ => form_item(Kind::Tag, walk),
+fn head_item(rule: &[u8], walk: &Walk) -> Placed {
+    let start = walk.at;
+    match group_at(rule, start) {
+        Some(0) => Placed {
+            item: Item::Constant,
+            start: start + 1,
+        },
+        Some(1) => Placed {
+            item: Item::Index,
+            start: start + 1,
+        },
+        Some(2) => call_item(rule, start + 1),
+        _ => Placed {
+            item: Item::Tag(part_at(walk)),
+            start,
+        },
     }
 }
 
 // The item that offends, of a rule that is not too long.
-pub fn offending_item(s: &[u8]) -> Item {
-    if !is_stored_width(group_at(s, 0)) {
-        return after_tag(Kind::Width, 0, 0);
+pub fn offending_item(rule: &[u8]) -> Placed {
+    if !group_at(rule, 0).is_some_and(is_stored_width) {
+        return Placed {
+            item: Item::Width,
+            start: 0,
+        };
     }
-    let walk = walk_form(s, 1);
+    let walk = walk_form(rule, 1);
     if walk.ended {
-        after_tag(Kind::After, walk.at, 0)
-    } else if MOST_OPEN <= walk.open {
-        form_item(Kind::Form, walk)
+        Placed {
+            item: Item::After,
+            start: walk.at,
+        }
+    } else if walk.is_deepest() {
+        Placed {
+            item: Item::Form(part_at(&walk)),
+            start: walk.at,
+        }
     } else {
-        head_item(s, walk)
-    }
-}
-
-// `the form`, or `argument 2 of fxxor`
-fn put_form_name(item: Item, out: &mut [u8], at: usize) -> usize {
-    if item.code == 0 {
-        return put(b"the form", out, at);
-    }
-    let at = put(b"argument ", out, at);
-    let at = put_natural(item.argument, out, at);
-    let at = put(b" of ", out, at);
-    put_name(Table::Fixnum, item.code, out, at)
-}
-
-// `the argument count of fxand`
-pub fn put_item(item: Item, out: &mut [u8], at: usize) -> usize {
-    let kind = item.kind;
-    match kind {
-        Kind::Width => put(b"the width", out, at),
-        Kind::Tag => {
-            let at = put(b"the tag of ", out, at);
-            put_form_name(item, out, at)
-        }
-        Kind::Constant => put(b"a constant", out, at),
-        Kind::Index => put(b"the index of an input", out, at),
-        Kind::Code => put(b"the code of a call", out, at),
-        Kind::Count => {
-            let at = put(b"the argument count of ", out, at);
-            put_name(Table::Fixnum, item.code, out, at)
-        }
-        Kind::Form => put_form_name(item, out, at),
-        Kind::After => put(b"after the form", out, at),
+        head_item(rule, &walk)
     }
 }

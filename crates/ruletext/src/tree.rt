@@ -1,89 +1,50 @@
 // A form as Scheme writes it, with the names of R6RS; input 3 is x3.
-use super::walk::{Event, STEPS, advance, is_last, start};
-use names::{Table, put_name};
-use output::{put, put_decimal, put_if, put_natural};
+use super::walk::{Event, Walk};
+use names::FixnumName;
 use rulereader::heads::INPUTS;
+use std::fmt;
 
-pub fn put_input(index: u64, out: &mut [u8], at: usize) -> usize {
-    let at = put(b"x", out, at);
-    put_natural(index, out, at)
-}
+#[derive(Clone, Copy)]
+pub struct Input(pub u64);
 
-fn put_opening(code: u64, out: &mut [u8], at: usize) -> usize {
-    let at = put(b"(", out, at);
-    put_name(Table::Fixnum, code, out, at)
-}
-
-// What a step adds. Before a form inside a call stands a blank.
-fn put_event(inside: bool, event: Event, out: &mut [u8], at: usize) -> usize {
-    match event {
-        Event::Constant(z) => {
-            let at = put_if(inside, b" ", out, at);
-            put_decimal(z, out, at)
-        }
-        Event::Input(i) => {
-            let at = put_if(inside, b" ", out, at);
-            put_input(i, out, at)
-        }
-        Event::Opens(code) => {
-            let at = put_if(inside, b" ", out, at);
-            put_opening(code, out, at)
-        }
-        Event::Closes => put(b")", out, at),
-        _ => at,
+impl fmt::Display for Input {
+    fn fmt<W: fmt::Write>(&self, f: &mut fmt::Formatter<W>) -> fmt::Result {
+        write!(f, "x{}", self.0)
     }
 }
 
 // The form that begins at an offset of a rule.
-pub fn put_form(s: &[u8], from: usize, out: &mut [u8], at: usize) -> usize {
-    let mut walk = start(from);
-    let mut filled = at;
-    let mut steps = 0;
-    while steps < STEPS {
-        let next = advance(s, walk);
-        let event = next.event;
-        if is_last(event) {
-            break;
-        }
-        filled = put_event(0 < walk.open, event, out, filled);
-        walk = next.walk;
-        steps += 1;
-    }
-    filled
+#[derive(Clone, Copy)]
+pub struct Form<'a> {
+    pub rule: &'a [u8],
+    pub from: usize,
 }
 
-fn max(a: u64, b: u64) -> u64 {
-    if a < b { b } else { a }
-}
-
-// How many inputs are needed after a step.
-fn needed_after(needed: u64, event: Event) -> u64 {
-    match event {
-        Event::Input(i) => {
-            if i < INPUTS {
-                max(needed, i + 1)
-            } else {
-                needed
+impl<'a> fmt::Display for Form<'a> {
+    fn fmt<W: fmt::Write>(&self, f: &mut fmt::Formatter<W>) -> fmt::Result {
+        let mut inside = false;
+        for event in Walk::new(self.rule, self.from) {
+            // Before a form inside a call.
+            let blank = if inside { " " } else { "" };
+            match event {
+                Event::Constant(value) => write!(f, "{blank}{value}")?,
+                Event::Input(index) => write!(f, "{blank}{}", Input(index))?,
+                Event::Opens { code } => write!(f, "{blank}({}", FixnumName(code))?,
+                Event::Closes => write!(f, ")")?,
             }
+            inside = true;
         }
-        _ => needed,
+        Ok(())
     }
 }
 
 // How many inputs the form that begins at an offset needs: one more than the greatest index it has, or 0.
-pub fn inputs_needed(s: &[u8], from: usize) -> u64 {
-    let mut walk = start(from);
+pub fn inputs_needed(rule: &[u8], from: usize) -> u64 {
     let mut needed = 0;
-    let mut steps = 0;
-    while steps < STEPS {
-        let next = advance(s, walk);
-        let event = next.event;
-        if is_last(event) {
-            break;
+    for event in Walk::new(rule, from) {
+        if let Event::Input(index) = event {
+            needed = index.saturating_add(1).max(needed);
         }
-        needed = needed_after(needed, event);
-        walk = next.walk;
-        steps += 1;
     }
     needed
 }

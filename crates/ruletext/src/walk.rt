@@ -1,178 +1,149 @@
 // A walk through the bytes of a form: each call is opened, its arguments follow, and it is closed.
+ghost use Rattle.std.specs.Prelude.{◌≡◌, ◌≤◌, nat_eq};
+ghost use Rattle.std.specs.Iterator.{at_most};
+
 use rulereader::heads::{Head, read_head};
 use rulereader::{DEEPEST, LONGEST};
 
 // How many calls can be open.
-pub const MOST_OPEN: usize = DEEPEST as usize;
+const MOST_OPEN: usize = DEEPEST as usize;
 
-// A proved loop ends: a walk through a rule has at most two steps for each byte, and one to end.
-pub const STEPS: usize = 2 * LONGEST + 1;
+// A walk through a rule has at most two steps for each byte, and one to end.
+const MOST_STEPS: usize = 2 * LONGEST + 1;
 
 // What a step comes to.
-#[derive(Clone, Copy)]
+#[derive(Clone, Copy, Debug, PartialEq, Eq)]
 pub enum Event {
     Constant(i64),
     Input(u64),
-    Opens(u64),
+    Opens { code: u64 },
     Closes,
-    Ended,
-    Offends,
 }
 
-// Where the next form begins, and the calls that are open: their codes, their argument counts and how many arguments are still to come.
+// A call that is open: its code, its argument count and how many arguments are still to come.
 #[derive(Clone, Copy)]
-pub struct Walk {
+pub struct Call {
+    pub code: u64,
+    pub count: u64,
+    pub left: u64,
+}
+
+// Where the next form begins, and the calls that are open, the innermost last. At the end of the form, or where it offends, the walk stays.
+#[derive(Drop)]
+pub struct Walk<'a> {
+    rule: &'a [u8],
     pub at: usize,
     pub ended: bool,
-    pub open: usize,
-    pub codes: [u64; MOST_OPEN],
-    pub counts: [u64; MOST_OPEN],
-    pub left: [u64; MOST_OPEN],
+    calls: [Call; MOST_OPEN],
+    depth: usize,
+    steps_left: usize,
+    ghost few: { depth ≤ 32 },
 }
 
-#[derive(Clone, Copy)]
-pub struct Step {
-    pub event: Event,
-    pub walk: Walk,
-}
-
-// n - m, or 0.
-pub fn less(n: u64, m: u64) -> u64 {
-    if m < n { n - m } else { 0 }
-}
-
-// Before the form that begins at an offset.
-pub fn start(at: usize) -> Walk {
-    Walk {
-        at,
-        ended: false,
-        open: 0,
-        codes: [0; MOST_OPEN],
-        counts: [0; MOST_OPEN],
-        left: [0; MOST_OPEN],
-    }
-}
-
-// After a whole form: an argument of the innermost open call, or the last.
-fn passed(walk: Walk) -> Walk {
-    let mut after = walk;
-    let open = walk.open;
-    after.ended = open == 0;
-    if 0 < open {
-        let top = open - 1;
-        if top < MOST_OPEN {
-            let left = walk.left[top];
-            after.left[top] = less(left, 1);
-        }
-    }
-    after
-}
-
-// After the head of a call.
-fn opened(walk: Walk, code: u64, count: u64, at: usize) -> Walk {
-    let mut after = walk;
-    let open = walk.open;
-    after.at = at;
-    if open < MOST_OPEN {
-        after.codes[open] = code;
-        after.counts[open] = count;
-        after.left[open] = count;
-        after.open = open + 1;
-    }
-    after
-}
-
-// After a constant or an input.
-fn moved(walk: Walk, at: usize) -> Walk {
-    let mut after = walk;
-    after.at = at;
-    passed(after)
-}
-
-// Whether all arguments of the innermost open call are passed.
-fn is_full(walk: Walk) -> bool {
-    let open = walk.open;
-    if 0 < open {
-        let top = open - 1;
-        if top < MOST_OPEN {
-            return walk.left[top] == 0;
-        }
-    }
-    false
-}
-
-fn close(walk: Walk) -> Step {
-    let mut after = walk;
-    let open = walk.open;
-    after.open = if open == 0 { 0 } else { open - 1 };
-    Step {
-        event: Event::Closes,
-        walk: passed(after),
-    }
-}
-
-fn take_head(s: &[u8], walk: Walk) -> Step {
-    let at = walk.at;
-    if s.len() < at || MOST_OPEN <= walk.open {
-        return Step {
-            event: Event::Offends,
-            walk,
+impl<'a> Walk<'a> {
+    // Before the form that begins at an offset.
+    pub fn new(rule: &'a [u8], from: usize) -> Walk<'a> {
+        let none = Call {
+            code: 0,
+            count: 0,
+            left: 0,
         };
-    }
-    match read_head(s, at) {
-        Head::Constant(z, p) => Step {
-            event: Event::Constant(z),
-            walk: moved(walk, p),
-        },
-        Head::Input(i, p) => Step {
-            event: Event::Input(i),
-            walk: moved(walk, p),
-        },
-        Head::Call(code, count, p) => Step {
-            event: Event::Opens(code),
-            walk: opened(walk, code, count, p),
-        },
-        Head::Offends(_) => Step {
-            event: Event::Offends,
-            walk,
-        },
-    }
-}
-
-// One step. After the form has ended, or where it offends, the walk stays where it is.
-pub fn advance(s: &[u8], walk: Walk) -> Step {
-    if is_full(walk) {
-        return close(walk);
-    }
-    if walk.ended {
-        return Step {
-            event: Event::Ended,
-            walk,
-        };
-    }
-    take_head(s, walk)
-}
-
-// Whether there are no further steps.
-pub fn is_last(event: Event) -> bool {
-    match event {
-        Event::Ended | Event::Offends => true,
-        _ => false,
-    }
-}
-
-// The walk to the end of the form that begins at an offset, or to where it offends.
-pub fn walk_form(s: &[u8], at: usize) -> Walk {
-    let mut walk = start(at);
-    let mut steps = 0;
-    while steps < STEPS {
-        let next = advance(s, walk);
-        let event = next.event;
-        if is_last(event) {
-            break;
+        Walk {
+            rule,
+            at: from,
+            ended: false,
+            calls: [none; MOST_OPEN],
+            depth: 0,
+            steps_left: MOST_STEPS,
         }
-        walk = next.walk;
-        steps += 1;
     }
+
+    // The innermost open call.
+    pub fn innermost(&self) -> Option<Call> {
+        self.calls[..self.depth].last().copied()
+    }
+
+    // Whether no further call can be opened.
+    pub fn is_deepest(&self) -> bool
+        ensures { result ≡ nat_eq self.now.depth 32 }
+    {
+        self.depth == MOST_OPEN
+    }
+
+    // After a whole form: an argument of the innermost open call, or the last.
+    fn pass(&mut self)
+        ensures { self.new.steps_left ≡ self.old.steps_left }
+    {
+        match self.depth.checked_sub(1) {
+            Some(top) => self.calls[top].left = self.calls[top].left.saturating_sub(1),
+            None => self.ended = true,
+        }
+    }
+
+    fn close(&mut self) -> Event
+        ensures { self.new.steps_left ≡ self.old.steps_left }
+    {
+        self.depth = self.depth.saturating_sub(1);
+        self.pass();
+        Event::Closes
+    }
+
+    fn step(&mut self) -> Option<Event>
+        ensures { self.new.steps_left ≡ self.old.steps_left }
+    {
+        if self.innermost().is_some_and(|call| call.left == 0) {
+            return Some(self.close());
+        }
+        if self.ended || self.rule.len() < self.at || self.is_deepest() {
+            return None;
+        }
+        let (head, end) = read_head(self.rule, self.at).ok()?;
+        self.at = end;
+        match head {
+            Head::Constant(value) => {
+                self.pass();
+                Some(Event::Constant(value))
+            }
+            Head::Input(index) => {
+                self.pass();
+                Some(Event::Input(index))
+            }
+            Head::Call { code, count } => {
+                self.calls[self.depth] = Call {
+                    code,
+                    count,
+                    left: count,
+                };
+                self.depth += 1;
+                Some(Event::Opens { code })
+            }
+        }
+    }
+}
+
+impl<'a> Iterator for Walk<'a> {
+    type Item = Event;
+
+    ghost remaining = { λ w. at_most w.steps_left };
+
+    fn next(&mut self) -> Option<Event> {
+        if self.steps_left == 0 {
+            return None;
+        }
+        let event = self.step()?;
+        self.steps_left -= 1;
+        Some(event)
+    }
+}
+
+// The walk at the end of the form that begins at an offset, or where it offends.
+pub fn walk_form<'a>(rule: &'a [u8], from: usize) -> Walk<'a> {
+    let mut walk = Walk::new(rule, from);
+    for _ in walk.by_ref() {}
     walk
+}
+
+// Where the form that begins at an offset ends, or offends.
+pub fn form_end(rule: &[u8], from: usize) -> usize {
+    walk_form(rule, from).at
 }
