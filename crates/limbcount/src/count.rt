@@ -12,31 +12,29 @@ use words::sign::from_magnitude;
 fn ones_of(low: u32, high: u32) -> u64
     ensures { result ≡ ones low + ones high }
 {
-    let both = (high as u64) * 0x1_0000_0000 + (low as u64);
-    u64::count_ones(both) as u64
+    let both = u64::from(high) * 0x1_0000_0000 + u64::from(low);
+    u64::from(both.count_ones())
 }
 
 // How many bits a limb has, without leading zeros.
 fn length_of(w: u32) -> u64
     ensures { result ≡ bit_length (pos w) }
 {
-    32 - (u32::leading_zeros(w) as u64)
+    32 - u64::from(w.leading_zeros())
 }
 
-// Two limbs a turn, and at the end the last one where it is alone.
+// Two limbs a turn, and at the end the last one where it is alone: a limb a turn takes twice the time from 32 limbs on.
 pub fn bit_count(x: &[u32]) -> i64
     requires { (0 < length x.now) × (length x.now ≤ 1024) }
     ensures { result ≡ bit_count (value x.now) }
 {
     let sign = padding(x);
     let mut n = 0u64;
-    let mut j = 0;
-    while j + 1 < x.len() {
-        n += ones_of(x[j] ^ sign, x[j + 1] ^ sign);
-        j += 2;
+    for k in 0..x.len() / 2 {
+        n += ones_of(x[2 * k] ^ sign, x[2 * k + 1] ^ sign);
     }
-    if j < x.len() {
-        n += ones_of(x[j] ^ sign, 0);
+    if x.len() % 2 == 1 {
+        n += ones_of(x[x.len() - 1] ^ sign, 0);
     }
     from_magnitude(sign != 0, n)
 }
@@ -52,7 +50,8 @@ pub fn bit_length(x: &[u32]) -> u64
     32 * (last as u64) + length_of(x[last] ^ padding(x))
 }
 
-// The lowest limb that is not zero, and in it the lowest one.
+// The lowest limb that is not zero, and in it the lowest one. (The rules that the library is built to name this form: a loop over limbs,
+// one over bits in it, and both left by a label with the index.)
 pub fn first_bit_set(x: &[u32]) -> i64
     requires { (0 < length x.now) × (length x.now ≤ 1024) }
     ensures { result ≡ first_bit_set (value x.now) }
@@ -62,12 +61,10 @@ pub fn first_bit_set(x: &[u32]) -> i64
         if j == x.len() {
             break 'limbs -1;
         }
-        let mut i = 0;
-        while i < 32 {
+        for i in 0..32 {
             if (x[j] >> i) % 2 == 1 {
                 break 'limbs (32 * j + i) as i64;
             }
-            i += 1;
         }
         j += 1;
     }

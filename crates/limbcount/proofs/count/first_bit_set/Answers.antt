@@ -9,18 +9,8 @@ use Rattle.limbwords.proofs.ValueLaws.{value-length}
 use Rattle.limbcount.proofs.CountLimbs.{none-first_bit_set, one_found, none_here}
 use Rattle.limbcount.proofs.count.first_bit_set.Goals as goal
 
-pub limbs-init : goal.limbs-init
-limbs-init c = (λ i h. absurd (omega arith), omega arith)
-
-pub loop-i-init : goal.loop-i-init
-loop-i-init c = (λ i h. c.limbs.invariant.0 i (omega arith), omega arith)
-
 pub loop-i-preserved : goal.loop-i-preserved
-loop-i-preserved c =
-    (none_here _ _ _ (omega arith) (omega arith) c.loop-i.invariant.0 c.if-x-j-eq1.false, omega arith)
-
-pub limbs-preserved : goal.limbs-preserved
-limbs-preserved c = (λ i h. c.loop-i.invariant.0 i (omega arith), omega arith)
+loop-i-preserved c = none_here _ _ _ (omega arith) (omega arith) c.loop-i.invariant c.if-x-j-eq1.false
 
 pub returns-then-j-x : goal.returns-then-j-x
 returns-then-j-x c =
@@ -30,4 +20,4 @@ returns-then-j-x c =
 
 pub returns-then-x-j-eq1 : goal.returns-then-x-j-eq1
 returns-then-x-j-eq1 c =
-    to_z_pos w64 _ (omega arith) ∙ one_found _ _ _ (omega arith) (omega arith) c.loop-i.invariant.0 c.if-x-j-eq1.true
+    to_z_pos w64 _ (omega arith) ∙ one_found _ _ _ (omega arith) (omega arith) c.loop-i.invariant c.if-x-j-eq1.true

@@ -6,10 +6,7 @@ use Rattle.limbcount.proofs.CountLimbs.{NoneBelow}
 use Rattle.limbcount.proofs.count.first_bit_set.Given as goal
 
 abbrev pub invariant-loop-i : goal.invariant-loop-i
-invariant-loop-i l = NoneBelow (value l.x) (32 * l.j + l.i) × (l.i ≤ 32)
-
-abbrev pub decreases-loop-i : goal.decreases-loop-i
-decreases-loop-i l = 32 - l.i
+invariant-loop-i l = NoneBelow (value l.x) (32 * l.j + l.i)
 
 abbrev pub invariant-limbs : goal.invariant-limbs
 invariant-limbs l = NoneBelow (value l.x) (32 * l.j) × (l.j ≤ length l.x)

@@ -1,18 +1,15 @@
--- `limbcount::count::ones_of` meets its contract. Assumes nothing.
+-- `limbcount::count::ones_of` meets its contract: the ones of a word are those of its halves. Assumes nothing.
+use Rattle.std.proofs.Common.{rules}
 use Prim.Native.Nat.{◌+◌, ◌*◌, ◌^◌}
 use native.Mathlib.Omega.{arith}
 use mathlib.Core.Path.{◌≡◌}
-use lib.Count.{ones, ones_cat, ones-le}
+use lib.Count.{ones, ones_cat}
 use Rattle.words.proofs.CountWords.{count_ones}
 use Rattle.limbcount.proofs.count.ones_of.Goals as goal
-use Rattle.limbcount.proofs.count.ones_of.Goals.{Start}
-
--- the ones of the word are those of its halves
-counted : (c : Start) → ones (c.args.high * 2 ^ 32 + c.args.low) ≡ ones c.args.high + ones c.args.low
-counted c = ones_cat 32 c.args.high c.args.low c.ranges.low.fits
-
-pub overflow_cast-result : goal.overflow_cast-result
-overflow_cast-result c = record { fits = omega (arith, counted c, ones-le 32 c.args.low c.ranges.low.fits, ones-le 32 c.args.high c.ranges.high.fits) }
 
 pub returns : goal.returns
-returns c = omega (arith, counted c, count_ones c.args.low, count_ones c.args.high)
+returns c =
+    let low = c.args.low in
+    let high = c.args.high in
+    let all : c.from-3.result ≡ ones (high * 2 ^ 32 + low) = search rules in
+    omega (arith, all, ones_cat 32 high low c.ranges.low.fits, count_ones low, count_ones high)
