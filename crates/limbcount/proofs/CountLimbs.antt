@@ -177,7 +177,5 @@ module _ (xs : List ℕ) (s : ℕ) (e : s ≡ bits_from (value xs) (32 * length 
         omega (arith, q, ones_of-more j b (omega arith) p refl, ones_of-more (j + 1) b l refl refl, ap (ones_of xs) next)
 
     -- the ones of the last limb, where it is alone
-    pub ones_of-last : j + 1 ≡ length xs → r ≡ ones (bit_xor (get_or xs (length xs - 1) 0) s) + ones 0 → n + r ≡ ones_of xs (length xs)
-    ones_of-last l q =
-        let at : length xs - 1 ≡ j = omega arith in
-        omega (arith, rw at at q, ones-zero, ones_of-more j b (omega arith) p refl, ap (ones_of xs) l)
+    pub ones_of-last : j + 1 ≡ length xs → r ≡ ones (bit_xor (get_or xs j 0) s) + ones 0 → n + r ≡ ones_of xs (length xs)
+    ones_of-last l q = omega (arith, q, ones-zero, ones_of-more j b (omega arith) p refl, ap (ones_of xs) l)

@@ -11,7 +11,7 @@ ghost use Rattle.limbwrite.specs.Inner.{Moved};
 use limbsegments::each::put_each;
 use limbsegments::index::first_past;
 use limbsegments::logical::{write_if, write_logical};
-use limbsegments::segment::{put_limbs, put_windows, put_zeros};
+use limbsegments::segment::{put_limbs, put_windows};
 use limbwords::field::reverse_limb;
 use limbwords::result::Operation;
 
@@ -36,60 +36,51 @@ fn put_piece(
     source: &[u32],
     piece: Piece,
     from: usize,
-    n: usize,
     part: &mut [u32],
 ) -> usize
     requires x_nonzero { (0 < length x.now) × ((0 < length y.now) × (0 < length source.now)) }
     requires proper { Proper operation }
     requires moved { Moved (meaning operation (value x.now) (value y.now) (value x.now)) (value source.now) piece.from piece.to piece.up piece.down }
     requires from_bound { (piece.from < 2 ^ 33) × (piece.up < 2 ^ 33) }
-    requires from_le_n { (from ≤ n) × ((n ≤ length part.old) × (n < 2 ^ 32)) }
-    ensures { ((from ≤ result) × (result ≤ n)) × Puts 0 (limb_at (meaning operation (value x.now) (value y.now) (value x.now))) part.old part.new from result }
+    requires from_le_length { (from ≤ length part.old) × (length part.old < 2 ^ 32) }
+    ensures { ((from ≤ result) × (result ≤ length part.old)) × Puts 0 (limb_at (meaning operation (value x.now) (value y.now) (value x.now))) part.old part.new from result }
 {
-    let inner = first_past(piece.from + 31, from, n);
-    let stop = first_past(piece.to, inner, n);
-    put_limbs(operation, x, y, x, from, inner, part);
+    let inner = first_past(piece.from + 31, from, part.len());
+    let stop = first_past(piece.to, inner, part.len());
+    put_limbs(operation, x, y, x, from, &mut part[from..inner]);
     let at = (32 * (inner as u64) + piece.up).saturating_sub(piece.down);
-    put_windows(source, at, inner, stop, part);
+    put_windows(source, at, &mut part[inner..stop]);
     stop
 }
 
 // The last piece, which is of x, and what is left after it limb by limb.
-fn put_last(
-    operation: Operation,
-    x: &[u32],
-    y: &[u32],
-    piece: Piece,
-    from: usize,
-    n: usize,
-    part: &mut [u32],
-)
+fn put_last(operation: Operation, x: &[u32], y: &[u32], piece: Piece, from: usize, part: &mut [u32])
     requires x_nonzero { (0 < length x.now) × (0 < length y.now) }
     requires proper { Proper operation }
     requires moved { Moved (meaning operation (value x.now) (value y.now) (value x.now)) (value x.now) piece.from piece.to piece.up piece.down }
     requires from_bound { (piece.from < 2 ^ 33) × (piece.up < 2 ^ 33) }
-    requires from_le_n { (from ≤ n) × ((n ≤ length part.old) × (n < 2 ^ 32)) }
-    ensures { Puts 0 (limb_at (meaning operation (value x.now) (value y.now) (value x.now))) part.old part.new from n }
+    requires from_le_length { (from ≤ length part.old) × (length part.old < 2 ^ 32) }
+    ensures { Puts 0 (limb_at (meaning operation (value x.now) (value y.now) (value x.now))) part.old part.new from (length part.old) }
 {
-    let rest = put_piece(operation, x, y, x, piece, from, n, part);
-    put_limbs(operation, x, y, x, rest, n, part);
+    let rest = put_piece(operation, x, y, x, piece, from, part);
+    put_limbs(operation, x, y, x, rest, &mut part[rest..]);
 }
 
-fn write_shift_left(x: &[u32], by: u64, n: usize, part: &mut [u32])
+fn write_shift_left(x: &[u32], by: u64, part: &mut [u32])
     requires x_nonzero { (0 < length x.now) × (by < 2 ^ 32) }
-    requires n_in_bounds { (n ≤ length part.old) × (n < 2 ^ 32) }
-    ensures { Puts 0 (limb_at (shift_left (value x.now) by)) part.old part.new 0 n }
+    requires part_bound { length part.old < 2 ^ 32 }
+    ensures { Puts 0 (limb_at (shift_left (value x.now) by)) part.old part.new 0 (length part.old) }
 {
     let operation = Operation::ShiftLeft { by };
-    let low = first_past(by, 0, n);
-    put_zeros(0, low, part);
+    let low = first_past(by, 0, part.len());
+    part[..low].fill(0);
     let above = Piece {
         from: by,
         to: FAR,
         up: 0,
         down: by,
     };
-    put_last(operation, x, x, above, low, n, part);
+    put_last(operation, x, x, above, low, part);
 }
 
 // The first n limbs of x as they are.
@@ -98,22 +89,22 @@ pub fn copy(x: &[u32], n: usize, part: &mut [u32])
     requires n_in_bounds { (n ≤ length part.old) × (n < 2 ^ 32) }
     ensures { Puts 0 (limb_at (value x.now)) part.old part.new 0 n }
 {
-    put_windows(x, 0, 0, n, part);
+    put_windows(x, 0, &mut part[..n]);
 }
 
-fn write_shift_right(x: &[u32], by: u64, n: usize, part: &mut [u32])
+fn write_shift_right(x: &[u32], by: u64, part: &mut [u32])
     requires x_nonzero { (0 < length x.now) × (by < 2 ^ 32) }
-    requires n_in_bounds { (n ≤ length part.old) × (n < 2 ^ 32) }
-    ensures { Puts 0 (limb_at (shift_right (value x.now) by)) part.old part.new 0 n }
+    requires part_bound { length part.old < 2 ^ 32 }
+    ensures { Puts 0 (limb_at (shift_right (value x.now) by)) part.old part.new 0 (length part.old) }
 {
-    put_windows(x, by, 0, n, part);
+    put_windows(x, by, part);
 }
 
-fn write_field(x: &[u32], start: u64, end: u64, n: usize, part: &mut [u32])
+fn write_field(x: &[u32], start: u64, end: u64, part: &mut [u32])
     requires x_nonzero { 0 < length x.now }
     requires start_le_end { (start ≤ end) × (end < 2 ^ 32) }
-    requires n_in_bounds { (n ≤ length part.old) × (n < 2 ^ 32) }
-    ensures { Puts 0 (limb_at (bit_field (value x.now) start end)) part.old part.new 0 n }
+    requires part_bound { length part.old < 2 ^ 32 }
+    ensures { Puts 0 (limb_at (bit_field (value x.now) start end)) part.old part.new 0 (length part.old) }
 {
     let operation = Operation::Field { start, end };
     let whole = Piece {
@@ -122,7 +113,7 @@ fn write_field(x: &[u32], start: u64, end: u64, n: usize, part: &mut [u32])
         up: start,
         down: 0,
     };
-    put_last(operation, x, x, whole, 0, n, part);
+    put_last(operation, x, x, whole, 0, part);
 }
 
 // Each bit of the result, from which operand and which bit of it; for the field from 2 to 8:
@@ -134,11 +125,11 @@ fn write_field(x: &[u32], start: u64, end: u64, n: usize, part: &mut [u32])
 //
 // A limb that lies whole in one of the three pieces is a window of its operand. One that lies across an end of the field is put
 // together bit by bit; in such a limb the field may both begin and end.
-fn write_copy_field(x: &[u32], y: &[u32], start: u64, end: u64, n: usize, part: &mut [u32])
+fn write_copy_field(x: &[u32], y: &[u32], start: u64, end: u64, part: &mut [u32])
     requires x_nonzero { (0 < length x.now) × (0 < length y.now) }
     requires start_le_end { (start ≤ end) × (end < 2 ^ 32) }
-    requires n_in_bounds { (n ≤ length part.old) × (n < 2 ^ 32) }
-    ensures { Puts 0 (limb_at (copy_bit_field (value x.now) start end (value y.now))) part.old part.new 0 n }
+    requires part_bound { length part.old < 2 ^ 32 }
+    ensures { Puts 0 (limb_at (copy_bit_field (value x.now) start end (value y.now))) part.old part.new 0 (length part.old) }
 {
     let operation = Operation::CopyField { start, end };
     let below = Piece {
@@ -159,9 +150,9 @@ fn write_copy_field(x: &[u32], y: &[u32], start: u64, end: u64, n: usize, part: 
         up: 0,
         down: 0,
     };
-    let low = put_piece(operation, x, y, x, below, 0, n, part);
-    let top = put_piece(operation, x, y, y, inside, low, n, part);
-    put_last(operation, x, y, above, top, n, part);
+    let low = put_piece(operation, x, y, x, below, 0, part);
+    let top = put_piece(operation, x, y, y, inside, low, part);
+    put_last(operation, x, y, above, top, part);
 }
 
 // The upper bits of the field come to its low end, and the others move up. Each bit of the result, by the bit of x that it is; for the
@@ -173,12 +164,12 @@ fn write_copy_field(x: &[u32], y: &[u32], start: u64, end: u64, n: usize, part: 
 //                          end         middle   start
 //
 // Limbs are written as in write_copy_field, from four pieces.
-fn write_rotate(x: &[u32], start: u64, end: u64, by: u64, n: usize, part: &mut [u32])
+fn write_rotate(x: &[u32], start: u64, end: u64, by: u64, part: &mut [u32])
     requires x_nonzero { 0 < length x.now }
     requires start_le_end { (start ≤ end) × (end < 2 ^ 32) }
     requires by_bound { by ≤ end - start }
-    requires n_in_bounds { (n ≤ length part.old) × (n < 2 ^ 32) }
-    ensures { Puts 0 (limb_at (rotate_bit_field (value x.now) start end (pos by))) part.old part.new 0 n }
+    requires part_bound { length part.old < 2 ^ 32 }
+    ensures { Puts 0 (limb_at (rotate_bit_field (value x.now) start end (pos by))) part.old part.new 0 (length part.old) }
 {
     let operation = Operation::Rotate { start, end, by };
     let middle = start + by;
@@ -206,19 +197,19 @@ fn write_rotate(x: &[u32], start: u64, end: u64, by: u64, n: usize, part: &mut [
         up: 0,
         down: 0,
     };
-    let low = put_piece(operation, x, x, x, below, 0, n, part);
-    let between = put_piece(operation, x, x, x, upper, low, n, part);
-    let top = put_piece(operation, x, x, x, others, between, n, part);
-    put_last(operation, x, x, above, top, n, part);
+    let low = put_piece(operation, x, x, x, below, 0, part);
+    let between = put_piece(operation, x, x, x, upper, low, part);
+    let top = put_piece(operation, x, x, x, others, between, part);
+    put_last(operation, x, x, above, top, part);
 }
 
-fn write_reverse(x: &[u32], start: u64, end: u64, n: usize, part: &mut [u32])
+fn write_reverse(x: &[u32], start: u64, end: u64, part: &mut [u32])
     requires x_nonzero { 0 < length x.now }
     requires start_le_end { (start ≤ end) × (end < 2 ^ 32) }
-    requires n_in_bounds { (n ≤ length part.old) × (n < 2 ^ 32) }
-    ensures { Puts 0 (limb_at (reverse_bit_field (value x.now) start end)) part.old part.new 0 n }
+    requires part_bound { length part.old < 2 ^ 32 }
+    ensures { Puts 0 (limb_at (reverse_bit_field (value x.now) start end)) part.old part.new 0 (length part.old) }
 {
-    put_each(|j| reverse_limb(x, start, end, j), 0, n, part);
+    put_each(|j| reverse_limb(x, start, end, j), part);
 }
 
 // The first n limbs, by the operation's own writer.
@@ -230,14 +221,15 @@ pub fn write(operation: Operation, x: &[u32], y: &[u32], z: &[u32], n: usize, pa
     requires n_in_bounds { (n ≤ length part.old) × (n < 2 ^ 32) }
     ensures { Puts 0 (limb_at (meaning operation (value x.now) (value y.now) (value z.now))) part.old part.new 0 n }
 {
+    let part = &mut part[..n];
     match operation {
-        Operation::Logical(by) => write_logical(by, x, y, n, part),
-        Operation::If => write_if(x, y, z, n, part),
-        Operation::ShiftLeft { by } => write_shift_left(x, by, n, part),
-        Operation::ShiftRight { by } => write_shift_right(x, by, n, part),
-        Operation::Field { start, end } => write_field(x, start, end, n, part),
-        Operation::CopyField { start, end } => write_copy_field(x, y, start, end, n, part),
-        Operation::Rotate { start, end, by } => write_rotate(x, start, end, by, n, part),
-        Operation::Reverse { start, end } => write_reverse(x, start, end, n, part),
+        Operation::Logical(by) => write_logical(by, x, y, part),
+        Operation::If => write_if(x, y, z, part),
+        Operation::ShiftLeft { by } => write_shift_left(x, by, part),
+        Operation::ShiftRight { by } => write_shift_right(x, by, part),
+        Operation::Field { start, end } => write_field(x, start, end, part),
+        Operation::CopyField { start, end } => write_copy_field(x, y, start, end, part),
+        Operation::Rotate { start, end, by } => write_rotate(x, start, end, by, part),
+        Operation::Reverse { start, end } => write_reverse(x, start, end, part),
     }
 }

@@ -1,5 +1,5 @@
 -- `limbcount::count::bit_count` meets its contract. The invariant: n is the ones of the first 2 k limbs of the magnitude. Assumes nothing.
-use Prim.Native.Nat.{◌+◌, ◌*◌}
+use Prim.Native.Nat.{◌+◌, ◌*◌, ◌-◌}
 use native.Mathlib.Omega.{arith}
 use mathlib.Core.Path.{◌≡◌, refl, ap, ◌∙◌}
 use lib.ListN.{length}
@@ -35,7 +35,9 @@ loop-k-preserved c = next c
 last : (c : After-ones_of-n-then-x-eq1) → let xs = c.args.x.now in
     c.loop-k.n + c.ones_of-n-then-x-eq1.result ≡ ones_of xs (length xs)
 last c =
-    ones_of-last _ _ c.padding-sign.ensures c.requires.0 _ (λ i. (c.type_inv.x i).fits) c.loop-k.invariant (omega arith) c.ones_of-n-then-x-eq1.ensures
+    let at : length c.args.x.now - 1 ≡ 2 * c.loop-k.k = omega arith in
+    ones_of-last _ _ c.padding-sign.ensures c.requires.0 _ (λ i. (c.type_inv.x i).fits) c.loop-k.invariant (omega arith)
+    (rw at at c.ones_of-n-then-x-eq1.ensures)
 
 pub overflow_add-n-then-x-eq1 : goal.overflow_add-n-then-x-eq1
 overflow_add-n-then-x-eq1 c = let xs = c.args.x.now in omega (arith, last c, ones_of-le xs (length xs))
@@ -47,8 +49,10 @@ all c =
     let xs = c.args.x.now in
     elim c.if-x-eq1.branch [
       | then-x-eq1 w ↦
+          let at : length xs - 1 ≡ 2 * c.loop-k.k = omega arith in
           w.n-is
-          ∙ ones_of-last _ _ c.padding-sign.ensures c.requires.0 _ (λ i. search rules) c.loop-k.invariant (omega arith) w.ones_of-n-then-x-eq1.ensures
+          ∙ ones_of-last _ _ c.padding-sign.ensures c.requires.0 _ (λ i. search rules) c.loop-k.invariant (omega arith)
+          (rw at at w.ones_of-n-then-x-eq1.ensures)
       | else-x-eq1 w ↦ w.n-is ∙ c.loop-k.invariant ∙ ap (ones_of xs) (omega arith)
     ]
 

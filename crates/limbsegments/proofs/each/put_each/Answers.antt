@@ -1,4 +1,5 @@
 -- `limbsegments::each::put_each` meets its contract, turn by turn. Assumes nothing.
+use Prim.Native.Nat.{zero-le}
 use native.Mathlib.Omega.{arith}
 use Rattle.outcomes.proofs.PutsLaws.{puts-more}
 use Rattle.limbsegments.proofs.each.put_each.Goals as goal
@@ -6,6 +7,6 @@ use Rattle.limbsegments.proofs.each.put_each.Goals as goal
 pub loop-j-preserved : goal.loop-j-preserved
 loop-j-preserved g c =
     λ f p.
-    let size = (c.loop-j.invariant f p).size in
-    let low = c.loop-j.auto.j in
-    puts-more _ (c.loop-j.invariant f p) (p c.loop-j.j _ low c.loop-j-test.true c.limb.ensures) low (omega arith)
+    let w = c.loop-j.invariant f p in
+    let size = w.size in
+    puts-more _ w (p c.loop-j.j _ (omega arith) c.limb_at.ensures) zero-le (omega arith)

@@ -1,7 +1,15 @@
--- `limbsegments::logical::write_logical` meets its contract: the second writer goes on where the first ends. Assumes nothing.
+-- `limbsegments::logical::write_logical` meets its contract: the limbs that both operands have, and then the others. Assumes nothing.
+use Rattle.std.proofs.Common.{rules}
+use Rattle.std.proofs.lemmas.List.{places}
 use native.Mathlib.Omega.{arith}
-use Rattle.outcomes.proofs.PutsLaws.{puts-join}
+use Rattle.limbsegments.proofs.Parts.{puts-two}
 use Rattle.limbsegments.proofs.logical.write_logical.Goals as goal
 
 pub returns : goal.returns
-returns c = puts-join c.write_common.ensures c.write_padded.ensures (omega arith) (omega arith)
+returns c =
+    puts-two c.args.part.now c.min-common.result
+    (c.put_each.ensures _ (λ j v h p. search rules))
+    (search (rules, places))
+    (omega arith)
+    (c.put_each-2.ensures _ (λ j v h p. search rules))
+    (search (rules, places))

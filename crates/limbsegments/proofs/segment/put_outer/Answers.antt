@@ -3,4 +3,4 @@ use Rattle.std.proofs.Common.{rules}
 use Rattle.limbsegments.proofs.segment.put_outer.Goals as goal
 
 pub returns : goal.returns
-returns c = c.put_each.ensures _ (λ j v h k p. search rules)
+returns c = c.put_each.ensures _ (λ j v h p. search rules)

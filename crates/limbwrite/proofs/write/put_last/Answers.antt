@@ -1,4 +1,8 @@
 -- `limbwrite::write::put_last` meets its contract. Assumes nothing.
+use Rattle.std.proofs.Common.{rules}
+use Rattle.std.proofs.lemmas.List.{places}
+use native.Mathlib.Omega.{arith}
+use Rattle.limbsegments.proofs.Parts.{puts-part}
 use Rattle.outcomes.proofs.PutsLaws.{puts-join}
 use Rattle.limbwrite.proofs.write.put_last.Goals as goal
 
@@ -10,4 +14,8 @@ put_limbs-requires-clause-x_nonzero c = (c.requires.x_nonzero.0, (c.requires.x_n
 
 pub returns : goal.returns
 returns c =
-    puts-join c.put_piece-rest.ensures.1 c.put_limbs.ensures c.put_piece-rest.ensures.0.0 c.put_piece-rest.ensures.0.1
+    let piece = c.put_piece-rest.ensures in
+    let size = piece.1.size in
+    puts-join piece.1
+    (puts-part _ _ _ _ c.put_limbs.ensures (search (rules, places)) (omega (arith, size, piece.0)) (omega (arith, size)))
+    piece.0.0 piece.0.1

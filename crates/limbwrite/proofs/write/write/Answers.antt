@@ -1,72 +1,80 @@
 -- `limbwrite::write::write` meets its contract. Assumes nothing.
-use Prim.Native.Nat.{ℕ}
+use Rattle.std.proofs.lemmas.List.{places}
+use Prim.Native.Nat.{ℕ, ◌≤◌}
+use native.Mathlib.Omega.{arith}
 use mathlib.Core.Path.{◌≡◌, sym, subst}
 use mathlib.Core.List.{List}
+use borrow.Rule.Slice.PartMut.{put_mid}
 use lib.IntN.{ℤ}
+use Rattle.std.proofs.Common.{length-take-le}
+use lib.ListN.{length, take}
 use Rattle.limbwords.specs.declared.result.Operation.{Operation}
 use Rattle.limbwords.specs.Results.{limb_at, meaning, Proper}
 use Rattle.outcomes.specs.Puts.{Puts}
+use Rattle.limbsegments.proofs.Parts.{puts-first}
 use Rattle.limbwrite.proofs.write.write.Goals as goal
 
 -- the operation that an arm of the match stands for: its numbers are proper, and its limbs are those of the result
 proper : {o r : Operation} → o ≡ r → Proper o → Proper r
 proper e = subst Proper e
 
-arm : (x y z : ℤ) {p q : List ℕ} {n : ℕ} {o r : Operation} → o ≡ r → Puts 0 (limb_at (meaning r x y z)) p q 0 n → Puts 0 (limb_at (meaning o x y z)) p q 0 n
-arm x y z {p} {q} {n} e = subst (λ (r : Operation). Puts 0 (limb_at (meaning r x y z)) p q 0 n) (sym e)
+arm : (x y z : ℤ) (a : List ℕ) {ys : List ℕ} (n : ℕ) {o r : Operation} → o ≡ r → n ≤ length a
+    → let b = take n a in Puts 0 (limb_at (meaning r x y z)) b ys 0 (length b) → Puts 0 (limb_at (meaning o x y z)) a (put_mid 0 n a ys) 0 n
+arm x y z a {ys} n e h w =
+    subst (λ (r : Operation). Puts 0 (limb_at (meaning r x y z)) a (put_mid 0 n a ys) 0 n) (sym e) (puts-first a n w (length-take-le n a h) h)
 
 pub write_shift_left-requires : goal.write_shift_left-requires
 unfolding Proper meaning
-write_shift_left-requires c = record { x_nonzero = (c.requires.x_nonzero, proper c.in-ShiftLeft.is c.requires.proper); n_in_bounds = c.requires.n_in_bounds }
+write_shift_left-requires c = record { x_nonzero = (c.requires.x_nonzero, proper c.in-ShiftLeft.is c.requires.proper); part_bound = grind (arith, places) }
 
 pub write_shift_right-requires : goal.write_shift_right-requires
 unfolding Proper meaning
-write_shift_right-requires c = record { x_nonzero = (c.requires.x_nonzero, proper c.in-ShiftRight.is c.requires.proper); n_in_bounds = c.requires.n_in_bounds }
+write_shift_right-requires c = record { x_nonzero = (c.requires.x_nonzero, proper c.in-ShiftRight.is c.requires.proper); part_bound = grind (arith, places) }
 
 pub write_field-requires : goal.write_field-requires
 unfolding Proper meaning
-write_field-requires c = record { x_nonzero = c.requires.x_nonzero; start_le_end = proper c.in-Field.is c.requires.proper; n_in_bounds = c.requires.n_in_bounds }
+write_field-requires c = record { x_nonzero = c.requires.x_nonzero; start_le_end = proper c.in-Field.is c.requires.proper; part_bound = grind (arith, places) }
 
 pub write_copy_field-requires : goal.write_copy_field-requires
 unfolding Proper meaning
-write_copy_field-requires c = record { x_nonzero = (c.requires.x_nonzero, c.requires.y_nonzero); start_le_end = proper c.in-CopyField.is c.requires.proper; n_in_bounds = c.requires.n_in_bounds }
+write_copy_field-requires c = record { x_nonzero = (c.requires.x_nonzero, c.requires.y_nonzero); start_le_end = proper c.in-CopyField.is c.requires.proper; part_bound = grind (arith, places) }
 
 pub write_rotate-requires : goal.write_rotate-requires
 unfolding Proper meaning
-write_rotate-requires c = let q = proper c.in-Rotate.is c.requires.proper in record { x_nonzero = c.requires.x_nonzero; start_le_end = q.0; by_bound = q.1; n_in_bounds = c.requires.n_in_bounds }
+write_rotate-requires c = let q = proper c.in-Rotate.is c.requires.proper in record { x_nonzero = c.requires.x_nonzero; start_le_end = q.0; by_bound = q.1; part_bound = grind (arith, places) }
 
 pub write_reverse-requires : goal.write_reverse-requires
 unfolding Proper meaning
-write_reverse-requires c = record { x_nonzero = c.requires.x_nonzero; start_le_end = proper c.in-Reverse.is c.requires.proper; n_in_bounds = c.requires.n_in_bounds }
+write_reverse-requires c = record { x_nonzero = c.requires.x_nonzero; start_le_end = proper c.in-Reverse.is c.requires.proper; part_bound = grind (arith, places) }
 
 pub returns-in-Logical : goal.returns-in-Logical
 unfolding Proper meaning
-returns-in-Logical c = arm _ _ _ c.in-Logical.is c.write_logical.ensures
+returns-in-Logical c = arm _ _ _ _ _ c.in-Logical.is c.requires.n_in_bounds.0 c.write_logical.ensures
 
 pub returns-in-If : goal.returns-in-If
 unfolding Proper meaning
-returns-in-If c = arm _ _ _ c.in-If.is c.write_if.ensures
+returns-in-If c = arm _ _ _ _ _ c.in-If.is c.requires.n_in_bounds.0 c.write_if.ensures
 
 pub returns-in-ShiftLeft : goal.returns-in-ShiftLeft
 unfolding Proper meaning
-returns-in-ShiftLeft c = arm _ _ _ c.in-ShiftLeft.is c.write_shift_left.ensures
+returns-in-ShiftLeft c = arm _ _ _ _ _ c.in-ShiftLeft.is c.requires.n_in_bounds.0 c.write_shift_left.ensures
 
 pub returns-in-ShiftRight : goal.returns-in-ShiftRight
 unfolding Proper meaning
-returns-in-ShiftRight c = arm _ _ _ c.in-ShiftRight.is c.write_shift_right.ensures
+returns-in-ShiftRight c = arm _ _ _ _ _ c.in-ShiftRight.is c.requires.n_in_bounds.0 c.write_shift_right.ensures
 
 pub returns-in-Field : goal.returns-in-Field
 unfolding Proper meaning
-returns-in-Field c = arm _ _ _ c.in-Field.is c.write_field.ensures
+returns-in-Field c = arm _ _ _ _ _ c.in-Field.is c.requires.n_in_bounds.0 c.write_field.ensures
 
 pub returns-in-CopyField : goal.returns-in-CopyField
 unfolding Proper meaning
-returns-in-CopyField c = arm _ _ _ c.in-CopyField.is c.write_copy_field.ensures
+returns-in-CopyField c = arm _ _ _ _ _ c.in-CopyField.is c.requires.n_in_bounds.0 c.write_copy_field.ensures
 
 pub returns-in-Rotate : goal.returns-in-Rotate
 unfolding Proper meaning
-returns-in-Rotate c = arm _ _ _ c.in-Rotate.is c.write_rotate.ensures
+returns-in-Rotate c = arm _ _ _ _ _ c.in-Rotate.is c.requires.n_in_bounds.0 c.write_rotate.ensures
 
 pub returns-in-Reverse : goal.returns-in-Reverse
 unfolding Proper meaning
-returns-in-Reverse c = arm _ _ _ c.in-Reverse.is c.write_reverse.ensures
+returns-in-Reverse c = arm _ _ _ _ _ c.in-Reverse.is c.requires.n_in_bounds.0 c.write_reverse.ensures

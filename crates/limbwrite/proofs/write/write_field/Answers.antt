@@ -6,7 +6,7 @@ use Rattle.limbwrite.proofs.write.write_field.Goals as goal
 
 pub put_last-requires : goal.put_last-requires
 unfolding meaning Proper
-put_last-requires c = record { x_nonzero = (c.requires.x_nonzero, c.requires.x_nonzero); proper = c.requires.start_le_end; moved = moved-field _ _ _; from_bound = (omega arith, omega arith); from_le_n = omega arith }
+put_last-requires c = record { x_nonzero = (c.requires.x_nonzero, c.requires.x_nonzero); proper = c.requires.start_le_end; moved = moved-field _ _ _; from_bound = (omega arith, omega arith); from_le_length = omega arith }
 
 pub returns : goal.returns
 unfolding meaning

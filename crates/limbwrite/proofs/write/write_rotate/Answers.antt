@@ -1,5 +1,7 @@
 -- `limbwrite::write::write_rotate` meets its contract. Assumes nothing.
 use native.Mathlib.Omega.{arith}
+use mathlib.Core.Path.{◌≡◌}
+use lib.ListN.{length}
 use Rattle.bits.specs.Field.{permute_field, rotate_bit_field}
 use Rattle.limbwords.specs.Results.{meaning, Proper}
 use Rattle.limbwrite.proofs.SegmentLaws.{moved-below, moved-above, moved-upper, moved-others}
@@ -8,21 +10,26 @@ use Rattle.limbwrite.proofs.write.write_rotate.Goals as goal
 
 pub put_piece-low-requires : goal.put_piece-low-requires
 unfolding meaning Proper rotate_bit_field permute_field
-put_piece-low-requires c = record { x_nonzero = (c.requires.x_nonzero, (c.requires.x_nonzero, c.requires.x_nonzero)); proper = (c.requires.start_le_end, c.requires.by_bound); moved = moved-below _ _ _ _; from_bound = (omega arith, omega arith); from_le_n = omega arith }
+put_piece-low-requires c = record { x_nonzero = (c.requires.x_nonzero, (c.requires.x_nonzero, c.requires.x_nonzero)); proper = (c.requires.start_le_end, c.requires.by_bound); moved = moved-below _ _ _ _; from_bound = (omega arith, omega arith); from_le_length = omega arith }
 
 pub put_piece-between-requires : goal.put_piece-between-requires
 unfolding meaning Proper
-put_piece-between-requires c = record { x_nonzero = (c.requires.x_nonzero, (c.requires.x_nonzero, c.requires.x_nonzero)); proper = (c.requires.start_le_end, c.requires.by_bound); moved = moved-upper _ _ _ _ c.requires.start_le_end.0 c.requires.by_bound; from_bound = (omega arith, omega arith); from_le_n = omega arith }
+put_piece-between-requires c = record { x_nonzero = (c.requires.x_nonzero, (c.requires.x_nonzero, c.requires.x_nonzero)); proper = (c.requires.start_le_end, c.requires.by_bound); moved = moved-upper _ _ _ _ c.requires.start_le_end.0 c.requires.by_bound; from_bound = (omega arith, omega arith); from_le_length = omega arith }
 
 pub put_piece-top-requires : goal.put_piece-top-requires
 unfolding meaning Proper
-put_piece-top-requires c = record { x_nonzero = (c.requires.x_nonzero, (c.requires.x_nonzero, c.requires.x_nonzero)); proper = (c.requires.start_le_end, c.requires.by_bound); moved = moved-others _ _ _ _ c.requires.start_le_end.0 c.requires.by_bound; from_bound = (omega arith, omega arith); from_le_n = omega arith }
+put_piece-top-requires c = record { x_nonzero = (c.requires.x_nonzero, (c.requires.x_nonzero, c.requires.x_nonzero)); proper = (c.requires.start_le_end, c.requires.by_bound); moved = moved-others _ _ _ _ c.requires.start_le_end.0 c.requires.by_bound; from_bound = (omega arith, omega arith); from_le_length = omega arith }
 
 pub put_last-requires : goal.put_last-requires
 unfolding meaning Proper rotate_bit_field permute_field
-put_last-requires c = record { x_nonzero = (c.requires.x_nonzero, c.requires.x_nonzero); proper = (c.requires.start_le_end, c.requires.by_bound); moved = moved-above _ _ _ _ _; from_bound = (omega arith, omega arith); from_le_n = omega arith }
+put_last-requires c = record { x_nonzero = (c.requires.x_nonzero, c.requires.x_nonzero); proper = (c.requires.start_le_end, c.requires.by_bound); moved = moved-above _ _ _ _ _; from_bound = (omega arith, omega arith); from_le_length = omega arith }
 
 pub returns : goal.returns
 unfolding meaning
 returns c =
-    puts-join c.put_piece-low.ensures.1 (puts-join c.put_piece-between.ensures.1 (puts-join c.put_piece-top.ensures.1 c.put_last.ensures c.put_piece-top.ensures.0.0 c.put_piece-top.ensures.0.1) c.put_piece-between.ensures.0.0 c.put_piece-between.ensures.0.1) c.put_piece-low.ensures.0.0 c.put_piece-low.ensures.0.1
+    let low = c.put_piece-low.ensures in
+    let between = c.put_piece-between.ensures in
+    let top = c.put_piece-top.ensures in
+    let end : length c.put_piece-top.new.part ≡ length c.args.part.now = omega (arith, low.1.size, between.1.size, top.1.size) in
+    let last = puts-join top.1 (rw end at c.put_last.ensures) top.0.0 (omega (arith, low.1.size, between.1.size, top.0)) in
+    puts-join low.1 (puts-join between.1 last between.0.0 (omega (arith, low.1.size, between.0))) low.0.0 low.0.1
