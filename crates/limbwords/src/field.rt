@@ -65,7 +65,7 @@ pub fn rotate_limb(x: &[u32], start: u64, end: u64, by: u64, j: usize) -> u32
 fn mirror(w: u32) -> u32
     ensures { (t : ℕ) → t < 32 → testbit (pos result) t ≡ testbit (pos w) (31 - t) }
 {
-    (reverse_word((w as u64) * 0x1_0000_0000) % 0x1_0000_0000) as u32
+    (reverse_word(u64::from(w) * 0x1_0000_0000) % 0x1_0000_0000) as u32
 }
 
 pub fn reverse_limb(x: &[u32], start: u64, end: u64, j: usize) -> u32

@@ -9,7 +9,7 @@ pub fn join(low: u32, high: u32, k: u64) -> u32
     requires { k < 32 }
     ensures { result ≡ (high * 2 ^ 32 + low) / 2 ^ k % 2 ^ 32 }
 {
-    let both = (high as u64) * 0x1_0000_0000 + (low as u64);
+    let both = u64::from(high) * 0x1_0000_0000 + u64::from(low);
     ((both >> k) % 0x1_0000_0000) as u32
 }
 

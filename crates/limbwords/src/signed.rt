@@ -14,8 +14,8 @@ pub fn word(x: &[u32]) -> i64
     ensures { result ≡ value x.now }
 {
     let sign = padding(x);
-    let low = (limb(x, 0) ^ sign) as u64;
-    let high = (limb(x, 1) ^ sign) as u64;
+    let low = u64::from(limb(x, 0) ^ sign);
+    let high = u64::from(limb(x, 1) ^ sign);
     from_magnitude(sign != 0, high * 0x1_0000_0000 + low)
 }
 

@@ -10,7 +10,7 @@ fn splice(low: u32, high: u32, k: u64) -> u32
     ensures { (t : ℕ) → t < 32 → testbit (pos result) t ≡ cond (ltb t k) (testbit (pos low) t) (testbit (pos high) t) }
 {
     let unit = power(k);
-    ((high as u64) / unit * unit + (low as u64) % unit) as u32
+    (u64::from(high) / unit * unit + u64::from(low) % unit) as u32
 }
 
 // The same for limb j of an integer, where `at` is a position in the whole.
