@@ -1,5 +1,5 @@
 -- `fold::open` meets its contract. Assumes nothing.
-use mathlib.Core.Path.{◌≡◌, ap, ◌∙◌}
+use mathlib.Core.Path.{ap, ◌∙◌}
 use Rattle.std.proofs.lemmas.Result.{err_from_is_err_and}
 use Rattle.words.proofs.WordLaws.{back}
 use Rattle.fold.specs.Fold.{settings}

@@ -1,15 +1,13 @@
 -- `fold::record::Open::fold_byte` meets its contract. Assumes nothing.
 use native.Mathlib.Omega.{arith}
 use native.Mathlib.Nat.{lt_trans}
-use mathlib.Core.Path.{◌≡◌, sym, ap, ap₂, ◌∙◌}
-use mathlib.Core.Bool.{true}
+use mathlib.Core.Path.{sym, ap, ap₂, ◌∙◌}
 use mir.Syntax.{w64}
 use mir.ValLaws.{to_z_pos}
 use lib.IntN.{ℤ, pos, nat_abs}
-use Rattle.bits.specs.Testbit.{fits}
 use Rattle.bits.specs.Field.{rotate_bit_field}
 use Rattle.bits.specs.Logical.{bitwise_xor}
-use Rattle.fold.specs.Fold.{with_accumulator, fold_byte}
+use Rattle.fold.specs.Fold.{with_accumulator}
 use Rattle.fold.proofs.OpenLaws.{open-field, byte_fits, fold_byte-is}
 use Rattle.fold.proofs.record.Open.fold_byte.Goals as goal
 

@@ -1,8 +1,7 @@
 -- `fold::record::Open::with_accumulator` meets its contract. Assumes nothing.
 use native.Mathlib.Omega.{arith}
 use mathlib.Core.Path.{ap, ◌∙◌}
-use Rattle.words.proofs.WordLaws.{back}
-use Rattle.fold.specs.Fold.{with_accumulator, is_open}
+use Rattle.fold.specs.Fold.{is_open}
 use Rattle.fold.proofs.RecordLaws.{updated}
 use Rattle.fold.proofs.OpenLaws.{open_at}
 use Rattle.fold.proofs.record.Open.with_accumulator.Goals as goal
