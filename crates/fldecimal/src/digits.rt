@@ -3,7 +3,7 @@ ghost use Rattle.std.specs.Prelude.{◌*◌, ◌^◌, ◌<◌, ◌≤◌};
 ghost use Rattle.fltext.specs.Inner.{Cleared};
 
 use fltext::limbs::multiply_add;
-use fltext::number::{difference, limb_space};
+use fltext::number::limb_space;
 use fltext::scale::{divide_power, multiply_power};
 
 // digits * 10^(up - down), or a little more.
@@ -12,6 +12,7 @@ pub struct Leading {
     pub digits: u64,
     pub up: u64,
     pub down: u64,
+    ghost few: { (up ≤ 1500) × (down ≤ 1500) },
 }
 
 // A significand and how many places it is shifted, in units of the smallest flonum.
@@ -19,11 +20,11 @@ pub struct Leading {
 struct Shifted {
     significand: u64,
     places: u64,
+    ghost small: { (significand < 2 ^ 53) × (places ≤ 2046) },
 }
 
 fn take_apart(magnitude: u64) -> Shifted
     requires { magnitude < 2 ^ 63 }
-    ensures { (result.significand < 2 ^ 53) × (result.places ≤ 2046) }
 {
     let field = magnitude / 0x10_0000_0000_0000;
     let low = magnitude % 0x10_0000_0000_0000;
@@ -39,25 +40,19 @@ fn take_apart(magnitude: u64) -> Shifted
     }
 }
 
-fn leading_zeros(n: u64) -> u64 {
-    u64::leading_zeros(n) as u64
-}
-
 fn joined(low: u32, high: u32) -> u64 {
-    high as u64 * 0x1_0000_0000 + low as u64
+    u64::from(high) * 0x1_0000_0000 + u64::from(low)
 }
 
 // How many places ten is raised to, and 716 more, for 18 or 19 digits: 30,103 / 100,000 is the logarithm of 2.
 fn estimate(s: Shifted) -> u64
-    requires { (s.significand < 2 ^ 53) × (s.places ≤ 2046) }
     ensures { result ≤ 1500 }
 {
-    let bits = difference(64, leading_zeros(s.significand)) + s.places;
+    let bits = 64 - u64::from(s.significand.leading_zeros()) + s.places;
     (bits + 1245) * 30103 / 100000
 }
 
 fn put_scaled(s: Shifted, power: u64, x: &mut [u32])
-    requires significand_bound { (s.significand < 2 ^ 53) × (s.places ≤ 2046) }
     requires power_bound { power ≤ 1500 }
     requires cleared { Cleared 3000 x.old }
 {
@@ -70,17 +65,18 @@ fn put_scaled(s: Shifted, power: u64, x: &mut [u32])
 
 pub fn leading_digits(magnitude: u64) -> Leading
     requires { magnitude < 2 ^ 63 }
-    ensures { (result.up ≤ 1500) × (result.down ≤ 1500) }
 {
     let s = take_apart(magnitude);
     let e = estimate(s);
+    let up = e.saturating_sub(716);
+    let down = 716u64.saturating_sub(e);
     let mut x = limb_space();
-    put_scaled(s, difference(716, e), &mut x);
-    divide_power(10, difference(e, 716), &mut x);
+    put_scaled(s, down, &mut x);
+    divide_power(10, up, &mut x);
     divide_power(2, 1074, &mut x);
     Leading {
         digits: joined(x[0], x[1]),
-        up: difference(e, 716),
-        down: difference(716, e),
+        up,
+        down,
     }
 }

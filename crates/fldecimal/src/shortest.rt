@@ -1,75 +1,72 @@
 // The text with the fewest digits.
-ghost use Rattle.std.specs.Prelude.{◌<◌, ◌≤◌};
+ghost use Rattle.std.specs.Prelude.{◌≡◌, ◌<◌, ◌≤◌, true};
 ghost use Rattle.fldecimal.specs.Spellings.{Spells};
 
 use super::candidate::{is_negative, try_number, try_word};
 use super::digits::{Leading, leading_digits};
 use flonum::ieee::{bits, is_finite, is_nan};
-use fltext::number::difference;
+use output::buffer::Output;
 
-// The two numbers next to digits / power, the nearer one first.
-fn try_near(x: f64, d: Leading, power: u64, dropped: u64, out: &mut [u8]) -> usize
-    requires up_bound { (d.up ≤ 1500) × (d.down ≤ 1500) }
-    requires power_nonzero { (0 < power) × (dropped ≤ 19) }
-    ensures { Spells x result out.new }
+// The two numbers next to digits / 10^dropped, the nearer one first.
+fn try_near(x: f64, d: Leading, dropped: u32, out: &mut Output) -> bool
+    requires { dropped ≤ 19 }
+    ensures { result ≡ true → Spells x out.new.filled out.new.bytes.now }
 {
+    let power = 10u64.pow(dropped);
     let lower = d.digits / power;
-    let upper = std::num::wrapping_add_u64(lower, 1);
-    let up = d.up + dropped;
-    if power / 2 <= d.digits % power {
-        let n = try_number(x, upper, up, d.down, out);
-        if 0 < n {
-            return n;
-        }
-        return try_number(x, lower, up, d.down, out);
-    }
-    let n = try_number(x, lower, up, d.down, out);
-    if 0 < n {
-        return n;
-    }
-    try_number(x, upper, up, d.down, out)
+    let upper = lower.wrapping_add(1);
+    let (near, far) = if power / 2 <= d.digits % power {
+        (upper, lower)
+    } else {
+        (lower, upper)
+    };
+    let up = d.up + u64::from(dropped);
+    try_number(x, near, up, d.down, out) || try_number(x, far, up, d.down, out)
 }
 
 // One digit more at a time.
-fn try_all(x: f64, d: Leading, out: &mut [u8]) -> usize
-    requires { (d.up ≤ 1500) × (d.down ≤ 1500) }
-    ensures { Spells x result out.new }
+fn try_all(x: f64, d: Leading, out: &mut Output) -> bool
+    ensures { result ≡ true → Spells x out.new.filled out.new.bytes.now }
 {
-    let mut power = 10_000_000_000_000_000_000;
-    let mut dropped = 19;
-    while 0 < power {
-        let n = try_near(x, d, power, dropped, out);
-        if 0 < n {
-            return n;
+    for dropped in (0..20).rev() {
+        if try_near(x, d, dropped, out) {
+            return true;
         }
-        power = power / 10;
-        dropped = difference(dropped, 1);
     }
-    0
+    false
 }
 
-fn put_other(x: f64, out: &mut [u8]) -> usize
-    ensures { Spells x result out.new }
+fn try_other(x: f64, out: &mut Output) -> bool
+    ensures { result ≡ true → Spells x out.new.filled out.new.bytes.now }
 {
     if is_nan(x) {
-        return try_word(x, b"nan", out);
+        try_word(x, b"nan", out)
+    } else if is_negative(x) {
+        try_word(x, b"-inf", out)
+    } else {
+        try_word(x, b"inf", out)
     }
-    if is_negative(x) {
-        return try_word(x, b"-inf", out);
-    }
-    try_word(x, b"inf", out)
 }
 
-// Puts a text that is read as x, with the fewest digits, at the start of out, and answers how many bytes it has; 0 where there is no room.
-pub fn put_shortest(x: f64, out: &mut [u8]) -> usize
-    ensures { Spells x result out.new }
+fn try_finite(x: f64, out: &mut Output) -> bool
+    ensures { result ≡ true → Spells x out.new.filled out.new.bytes.now }
 {
-    if !is_finite(x) {
-        return put_other(x, out);
+    match bits(x) % 0x8000_0000_0000_0000 {
+        0 => try_number(x, 0, 0, 0, out),
+        magnitude => try_all(x, leading_digits(magnitude), out),
     }
-    let magnitude = bits(x) % 0x8000_0000_0000_0000;
-    if magnitude == 0 {
-        return try_number(x, 0, 0, 0, out);
+}
+
+// Makes the buffer's text one that is read as x, with the fewest digits, or none where there is no room.
+pub fn put_shortest(x: f64, out: &mut Output)
+    ensures { Spells x out.new.filled out.new.bytes.now }
+{
+    let found = if is_finite(x) {
+        try_finite(x, out)
+    } else {
+        try_other(x, out)
+    };
+    if !found {
+        out.clear();
     }
-    try_all(x, leading_digits(magnitude), out)
 }

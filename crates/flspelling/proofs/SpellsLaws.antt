@@ -1,15 +1,21 @@
 -- A flonum's text has at most 24 bytes; what spelling one answers. Assumes nothing.
 use Prim.Native.Nat.{ℕ, zero, suc, ◌+◌, ◌*◌, ◌-◌, ◌/◌, ◌%◌, ◌^◌, ◌≤◌, ◌<◌}
 use native.Mathlib.Omega.{arith}
-use mathlib.Core.Path.{◌≡◌, refl, sym, ap, ◌∙◌}
+use mathlib.Core.Path.{◌≡◌, refl, sym, ap, ap₂, subst, ◌∙◌}
 use mathlib.Core.Bool.{Bool, true, false, cond}
 use mathlib.Core.List.{List, [], ◌∷◌, ◌++◌}
 use lib.Dec.{eqb, ltb}
-use lib.ListN.{length, length-append}
+use lib.ListN.{length, take, drop, length-append}
 use lib.Ieee.{Float, binary64, to_bits}
 use borrow.Author.Tests.{le-leb, lt-leb}
-use Rattle.outcomes.specs.Outcome.{Outcome, done}
-use Rattle.outcomes.specs.Buffer.{afterwards, count_of}
+use Rattle.outcomes.specs.Outcome.{Outcome, done, map_done}
+use Rattle.outcomes.specs.Refusal.{outcome_of, code_of}
+use Rattle.outcomes.specs.declared.refusal.Refusal.{Refusal}
+use Rattle.std.specs.Prelude.{Ok, Err}
+use Rattle.outcomes.specs.Buffer.{laid, afterwards}
+use Rattle.outcomes.proofs.BufferLaws.{laid-copy}
+use Rattle.output.specs.Counts.{IsPrefixLen}
+use Rattle.flspelling.proofs.PutsLaws.{counts}
 use Rattle.outcomes.proofs.OutcomeLaws.{passed, failed}
 use Rattle.output.proofs.AppendLaws.{after-whole, filled-whole}
 use Rattle.spelling.specs.Spellings.{glyph}
@@ -72,18 +78,35 @@ length-text b =
 
 -- ---- the answer
 
-pub spells-none : (x : Float) (out : List ℕ) → length out < 24 → Spells x out 0 out
-unfolding spelling count_of afterwards
-spells-none x out h = let e = failed 8 (done (hex_float x)) (lt-leb 24 (length out) h) in record { count = rw e refl; buffer = rw e refl }
+pub spells-none : (x : Float) (out : List ℕ) → length out < 24 → Spells x out (Err Refusal.Capacity) out
+unfolding spelling afterwards outcome_of code_of map_done
+spells-none x out h = let e = failed 8 (done (hex_float x)) (lt-leb 24 (length out) h) in record { answer = rw e refl; buffer = rw e refl }
 
-pub spells-put : (x : Float) (out : List ℕ) {b r : ℕ} {out' : List ℕ} → 24 ≤ length out → b ≡ to_bits binary64 x → Puts (text_of_bits b) out 0 r out' → Spells x out r out'
-unfolding spelling hex_float count_of afterwards
-spells-put x out {b} {r} {out'} h e p =
-    let text = text_of_bits b in
-    let fits : 0 + length text ≤ length out = omega (arith, length-text b) in
-    let is : spelling x out ≡ done text = passed 8 (done (hex_float x)) (le-leb 24 (length out) h) ∙ ap (λ (n : ℕ). done (text_of_bits n)) (sym e) in
-    let long : r ≡ length text = p.count ∙ filled-whole text out 0 fits ∙ omega arith in
-    record {
-      count = long ∙ sym (ap count_of is);
-      buffer = p.buffer ∙ after-whole text out 0 fits ∙ sym (ap (λ (o : Outcome (List ℕ)). afterwards o out 0) is);
-    }
+-- the text is put into room for every text, and copied from there
+module _ (b : ℕ) {space bytes text : List ℕ} {at r : ℕ} (room : length space ≡ 24) (start : at ≡ 0) (p : Puts (text_of_bits b) space at r bytes)
+    (t : text ≡ take r bytes) where
+  text-is : text ≡ text_of_bits b
+  text-is =
+      let T = text_of_bits b in
+      let q : Puts T space 0 r bytes = subst (λ (i : ℕ). Puts T space i r bytes) start p in
+      let fits : 0 + length T ≤ length space = omega (arith, length-text b, room) in
+      let long : r ≡ length T = q.count ∙ filled-whole T space 0 fits ∙ omega arith in
+      t ∙ ap₂ take long (q.buffer ∙ after-whole T space 0 fits) ∙ laid-copy space 0 T (omega arith)
+
+  pub text-fits : length text ≤ 24
+  text-fits = omega (arith, ap length text-is, length-text b)
+
+  module _ (x : Float) (out : List ℕ) {out' : List ℕ} (h : 24 ≤ length out) (e : b ≡ to_bits binary64 x) (c : out' ≡ text ++ drop (length text) out) where
+    pub spells-put : Spells x out (Ok (length text)) out'
+    unfolding spelling hex_float afterwards outcome_of map_done laid
+    spells-put =
+        let T = text_of_bits b in
+        let is : spelling x out ≡ done T = passed 8 (done (hex_float x)) (le-leb 24 (length out) h) ∙ ap (λ (n : ℕ). done (text_of_bits n)) (sym e) in
+        let i : length T ≡ 0 + length T = omega arith in
+        record {
+          answer = ap (λ (l : List ℕ). done (length l)) text-is ∙ sym (ap (λ (o : Outcome (List ℕ)). map_done length o) is);
+          buffer = c ∙ ap (λ (l : List ℕ). l ++ drop (length l) out) text-is ∙ ap (λ (n : ℕ). T ++ drop n out) i ∙ sym (ap (λ (o : Outcome (List ℕ)). afterwards o out 0) is);
+        }
+
+    pub put-counts : IsPrefixLen (length text) out'
+    put-counts = counts (length text) out' (omega (arith, ap length c, length-append text (drop (length text) out)))

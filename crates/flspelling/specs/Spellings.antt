@@ -12,12 +12,14 @@
 --   text_of_bits b        ==  the text of the flonum with the bits b
 --   hex_float x          ==  the text of a flonum
 --   spelling x out      ==  that text; refusal 8 where the buffer has less than 24 bytes
---   Spells x out r out' ==  r counts the bytes of that text, and they are now at the start of the buffer
-use Rattle.std.specs.Prelude.{ℕ, zero, suc, ◌+◌, ◌*◌, ◌-◌, ◌/◌, ◌%◌, ◌^◌, ◌≡◌, cond, List, [], ◌∷◌, ◌++◌, eqb, leb, ltb, length, Float}
+--   Spells x out r out' ==  r counts the bytes of that text, or is that refusal, and they are now at the start of the buffer
+use Rattle.std.specs.Prelude.{ℕ, zero, suc, ◌+◌, ◌*◌, ◌-◌, ◌/◌, ◌%◌, ◌^◌, ◌≡◌, cond, List, [], ◌∷◌, ◌++◌, eqb, leb, ltb, length, Float, Result}
 use Rattle.std.specs.Float.{binary64}
 use Rattle.std.specs.Float.Ieee.{to_bits}
-use Rattle.outcomes.specs.Outcome.{Outcome, done, guard}
-use Rattle.outcomes.specs.Buffer.{afterwards, count_of}
+use Rattle.outcomes.specs.Outcome.{Outcome, done, guard, map_done}
+use Rattle.outcomes.specs.Refusal.{outcome_of}
+use Rattle.outcomes.specs.declared.refusal.Refusal.{Refusal}
+use Rattle.outcomes.specs.Buffer.{afterwards}
 use Rattle.spelling.specs.Spellings.{glyph}
 
 unfoldable pub fraction : ℕ → ℕ → List ℕ
@@ -60,6 +62,6 @@ hex_float x = text_of_bits (to_bits binary64 x)
 unfoldable pub spelling : Float → List ℕ → Outcome (List ℕ)
 spelling x out = guard (leb 24 (length out)) 8 (done (hex_float x))
 
-pub record Spells (x : Float) (out : List ℕ) (r : ℕ) (out' : List ℕ) : Type 0 where
-  pub count : r ≡ count_of (spelling x out)
+pub record Spells (x : Float) (out : List ℕ) (r : Result ℕ Refusal) (out' : List ℕ) : Type 0 where
+  pub answer : outcome_of r ≡ map_done length (spelling x out)
   pub buffer : out' ≡ afterwards (spelling x out) out 0

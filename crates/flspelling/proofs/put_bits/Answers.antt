@@ -8,4 +8,4 @@ pub returns : goal.returns
 unfolding text_of_bits
 returns c =
     let b = c.args.b in
-    puts_then (sign b) (magnitude (b / 2 ^ 52 % 2048) (b % 2 ^ 52)) c.put_sign-at.ensures c.put_magnitude.ensures
+    puts_then (sign b) (magnitude (b / 2 ^ 52 % 2048) (b % 2 ^ 52)) c.put_sign.ensures c.put_magnitude.ensures

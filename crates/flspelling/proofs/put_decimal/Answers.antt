@@ -10,7 +10,7 @@ unfolding decimal
 returns c =
     let n = c.args.n in
     let d = c.last_digit.ensures in
-    puts_then (place n 1000) (place n 100 ++ (place n 10 ++ (last_digit n ∷ []))) c.put_place-at.ensures
-    (puts_then (place n 100) (place n 10 ++ (last_digit n ∷ [])) c.put_place-at-2.ensures
-    (puts_then (place n 10) (last_digit n ∷ []) c.put_place-at-3.ensures
-    (rw (sym d) (record { count = c.put.ensures.value; buffer = c.put.ensures.out_after }))))
+    puts_then (place n 1000) (place n 100 ++ (place n 10 ++ (last_digit n ∷ []))) c.put_place.ensures
+    (puts_then (place n 100) (place n 10 ++ (last_digit n ∷ [])) c.put_place-2.ensures
+    (puts_then (place n 10) (last_digit n ∷ []) c.put_place-3.ensures
+    (rw (sym d) (record { count = c.put.ensures.filled; buffer = c.put.ensures.bytes }))))

@@ -9,12 +9,12 @@ use Rattle.flspelling.proofs.put_magnitude.Goals as goal
 pub returns-then-m-eq0 : goal.returns-then-m-eq0
 unfolding magnitude
 returns-then-m-eq0 c =
-    rw (le-ltb _ 2047 c.if-e-ge2047.true, eq-eqb _ 0 c.if-m-eq0.true) (record { count = c.put.ensures.value; buffer = c.put.ensures.out_after })
+    rw (le-ltb _ 2047 c.if-e-ge2047.true, eq-eqb _ 0 c.if-m-eq0.true) (record { count = c.put.ensures.filled; buffer = c.put.ensures.bytes })
 
-pub returns-then-e-ge2047 : goal.returns-then-e-ge2047
+pub returns-else-m-eq0 : goal.returns-else-m-eq0
 unfolding magnitude
-returns-then-e-ge2047 c =
-    rw (le-ltb _ 2047 c.if-e-ge2047.true, ne_eqb _ 0 c.if-m-eq0.false) (record { count = c.put-then-e-ge2047.ensures.value; buffer = c.put-then-e-ge2047.ensures.out_after })
+returns-else-m-eq0 c =
+    rw (le-ltb _ 2047 c.if-e-ge2047.true, ne_eqb _ 0 c.if-m-eq0.false) (record { count = c.put-else-m-eq0.ensures.filled; buffer = c.put-else-m-eq0.ensures.bytes })
 
 pub returns : goal.returns
 unfolding magnitude
@@ -23,5 +23,5 @@ returns c =
     let m = c.args.m in
     let s = c.scale.ensures in
     rw (lt-ltb e 2047 c.if-e-ge2047.false)
-    (puts_then (leading e) (pointed m ++ power (scale e m)) c.put_leading-at.ensures
-    (puts_then (pointed m) (power (scale e m)) c.put_pointed-at.ensures (rw (sym s) c.put_power.ensures)))
+    (puts_then (leading e) (pointed m ++ power (scale e m)) c.put_leading.ensures
+    (puts_then (pointed m) (power (scale e m)) c.put_pointed.ensures (rw (sym s) c.put_power.ensures)))

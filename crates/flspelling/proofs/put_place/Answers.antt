@@ -7,10 +7,10 @@ use Rattle.flspelling.proofs.put_place.Goals as goal
 pub returns-then-n-p : goal.returns-then-n-p
 unfolding place
 returns-then-n-p c =
-    rw (lt-ltb _ _ c.if-n-p.true) (record { count = c.put.ensures.value; buffer = c.put.ensures.out_after })
+    rw (lt-ltb _ _ c.if-n-p.true) (record { count = c.put.ensures.filled; buffer = c.put.ensures.bytes })
 
 pub returns : goal.returns
 unfolding place
 returns c =
     let d = c.last_digit.ensures in
-    rw (le-ltb _ _ c.if-n-p.false, sym d) (record { count = c.put-2.ensures.value; buffer = c.put-2.ensures.out_after })
+    rw (le-ltb _ _ c.if-n-p.false, sym d) (record { count = c.put-2.ensures.filled; buffer = c.put-2.ensures.bytes })

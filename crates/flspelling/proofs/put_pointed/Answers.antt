@@ -8,10 +8,10 @@ use Rattle.flspelling.proofs.put_pointed.Goals as goal
 pub returns-then-m-eq0 : goal.returns-then-m-eq0
 unfolding pointed
 returns-then-m-eq0 c =
-    rw (eq-eqb _ 0 c.if-m-eq0.true) (record { count = c.put.ensures.value; buffer = c.put.ensures.out_after })
+    rw (eq-eqb _ 0 c.if-m-eq0.true) (record { count = c.put.ensures.filled; buffer = c.put.ensures.bytes })
 
 pub returns : goal.returns
 unfolding pointed
 returns c =
     let m = c.args.m in
-    rw (ne_eqb m 0 c.if-m-eq0.false) (puts_then (46 ∷ []) (fraction 13 m) (record { count = c.put-at.ensures.value; buffer = c.put-at.ensures.out_after }) c.put_fraction.ensures)
+    rw (ne_eqb m 0 c.if-m-eq0.false) (puts_then (46 ∷ []) (fraction 13 m) (record { count = c.put-2.ensures.filled; buffer = c.put-2.ensures.bytes }) c.put_fraction.ensures)

@@ -11,11 +11,11 @@ unfolding power
 returns-then-f-lt1023 c =
     let f = c.args.f in
     rw (lt-ltb f 1023 c.if-f-lt1023.true)
-    (puts_then (112 ∷ 45 ∷ []) (decimal (1023 - f)) (record { count = c.put-at.ensures.value; buffer = c.put-at.ensures.out_after }) c.put_decimal.ensures)
+    (puts_then (112 ∷ 45 ∷ []) (decimal (1023 - f)) (record { count = c.put.ensures.filled; buffer = c.put.ensures.bytes }) c.put_decimal.ensures)
 
 pub returns : goal.returns
 unfolding power
 returns c =
     let f = c.args.f in
     rw (le-ltb f 1023 c.if-f-lt1023.false)
-    (puts_then (112 ∷ 43 ∷ []) (decimal (f - 1023)) (record { count = c.put-at-2.ensures.value; buffer = c.put-at-2.ensures.out_after }) c.put_decimal-2.ensures)
+    (puts_then (112 ∷ 43 ∷ []) (decimal (f - 1023)) (record { count = c.put-2.ensures.filled; buffer = c.put-2.ensures.bytes }) c.put_decimal-2.ensures)

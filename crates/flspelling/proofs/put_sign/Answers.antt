@@ -7,9 +7,9 @@ use Rattle.flspelling.proofs.put_sign.Goals as goal
 pub returns-then-b-lt9223372036854775808 : goal.returns-then-b-lt9223372036854775808
 unfolding sign
 returns-then-b-lt9223372036854775808 c =
-    rw (lt-ltb _ (2 ^ 63) c.if-b-lt9223372036854775808.true) (record { count = c.put.ensures.value; buffer = c.put.ensures.out_after })
+    rw (lt-ltb _ (2 ^ 63) c.if-b-lt9223372036854775808.true) (record { count = c.put.ensures.filled; buffer = c.put.ensures.bytes })
 
 pub returns-else-b-lt9223372036854775808 : goal.returns-else-b-lt9223372036854775808
 unfolding sign
 returns-else-b-lt9223372036854775808 c =
-    rw (le-ltb _ (2 ^ 63) c.if-b-lt9223372036854775808.false) (record { count = c.put-else-b-lt9223372036854775808.ensures.value; buffer = c.put-else-b-lt9223372036854775808.ensures.out_after })
+    rw (le-ltb _ (2 ^ 63) c.if-b-lt9223372036854775808.false) (record { count = c.put-else-b-lt9223372036854775808.ensures.filled; buffer = c.put-else-b-lt9223372036854775808.ensures.bytes })

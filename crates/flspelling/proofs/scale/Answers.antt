@@ -4,14 +4,14 @@ use borrow.Author.Tests.{eq-eqb, ne_eqb}
 use Rattle.flspelling.specs.Spellings.{scale}
 use Rattle.flspelling.proofs.scale.Goals as goal
 
-pub returns-then-e-ne0 : goal.returns-then-e-ne0
+pub returns-in-0-eq0 : goal.returns-in-0-eq0
 unfolding scale
-returns-then-e-ne0 c = rw (ne_eqb _ 0 c.if-e-ne0.true) refl
+returns-in-0-eq0 c = rw (eq-eqb _ 0 c.in-0-eq0.is-0, eq-eqb _ 0 c.in-0-eq0.is-1) refl
 
-pub returns-then-m-eq0 : goal.returns-then-m-eq0
+pub returns-in-0-default : goal.returns-in-0-default
 unfolding scale
-returns-then-m-eq0 c = rw (eq-eqb _ 0 c.if-e-ne0.false, eq-eqb _ 0 c.if-m-eq0.true) refl
+returns-in-0-default c = rw (eq-eqb _ 0 c.in-0-default.is-0, ne_eqb _ 0 c.in-0-default.is-1.1) refl
 
-pub returns-else-m-eq0 : goal.returns-else-m-eq0
+pub returns-in_default : goal.returns-in_default
 unfolding scale
-returns-else-m-eq0 c = rw (eq-eqb _ 0 c.if-e-ne0.false, ne_eqb _ 0 c.if-m-eq0.false) refl
+returns-in_default c = rw (ne_eqb _ 0 c.in_default.is-0.1) refl

@@ -1,6 +1,0 @@
--- `fldecimal::layout::put_mixed` meets its contract. Assumes nothing.
-use Rattle.std.proofs.Common.{sym, length-take-le}
-use Rattle.fldecimal.proofs.layout.put_mixed.Goals as goal
-
-pub slice_bounds-put-end : goal.slice_bounds-put-end
-slice_bounds-put-end c = sym (length-take-le _ _ c.requires)
