@@ -3,30 +3,37 @@ use fldecimal::put_shortest;
 use flonum::answer::Answer;
 use flonum::ieee::bits;
 use flspelling::spell_flonum;
-use output::{put, put_both, put_word};
+use output::buffer::Output;
+use output::numerals::Both;
 
-fn put_decimal(x: f64, out: &mut [u8], at: usize) -> usize {
-    let mut text = [0u8; 32];
-    let n = put_shortest(x, &mut text);
-    put(&text[..n], out, at)
+fn put_decimal(x: f64, out: &mut Output) {
+    let mut space = [0u8; 32];
+    let mut decimal = Output::new(&mut space);
+    put_shortest(x, &mut decimal);
+    out.put(decimal.text());
+}
+
+fn put_hexadecimal(x: f64, out: &mut Output) {
+    let mut space = [0u8; 24];
+    if let Ok(n) = spell_flonum(x, &mut space) {
+        out.put(&space[..n]);
+    }
 }
 
 // `3.0 0x1.8p+1 0x4008000000000000`: a flonum in decimal, as C prints it by %a, and its bits.
-pub fn put_flonum(x: f64, out: &mut [u8], at: usize) -> usize {
-    let at = put_decimal(x, out, at);
-    let at = put(b" ", out, at);
-    let mut text = [0u8; 24];
-    let n = spell_flonum(x, &mut text);
-    let at = put(&text[..n], out, at);
-    let at = put(b" 0x", out, at);
-    put_word(bits(x), out, at)
+pub fn put_flonum(x: f64, out: &mut Output) {
+    put_decimal(x, out);
+    out.put(b" ");
+    put_hexadecimal(x, out);
+    out.print(format_args!(" 0x{:016x}", bits(x)));
 }
 
-// The value of a done call. A refusal has none.
-pub fn put_value(answer: Answer, out: &mut [u8], at: usize) -> usize {
+// The value of a done call, a line. A refusal has none.
+pub fn put_value(answer: Answer, out: &mut Output) {
     match answer {
-        Answer::Flonum(x) => put_flonum(x, out, at),
-        Answer::Fixnum(n) => put_both(n, out, at),
-        Answer::Refused(refusal) => at,
+        Answer::Flonum(x) => put_flonum(x, out),
+        Answer::Fixnum(n) => out.print(Both(n)),
+        Answer::Refused(_) => {}
     }
+    out.put(b"\n");
 }

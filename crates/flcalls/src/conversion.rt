@@ -1,60 +1,61 @@
 // `fl fixnum->flonum`.
 use super::answer::put_value;
-use super::number::has_word;
+use super::number::ends_before;
 use flonum::answer::Answer;
 use flonum::fixnum_to_flonum;
-use fxcalls::explain::{put_range, put_width_limit};
-use line::number::{Given, Natural, number, width};
-use line::refusal::{put_is, put_refused};
-use line::reply::{Reply, done, refused, trouble};
-use line::trouble::Expected;
-use output::put;
+use fxcalls::explain::{Range, width_limit};
+use line::Line;
+use line::refusal::{Refused, refusal_of};
+use line::trouble::{Expected, Status, Trouble};
+use outcomes::refusal::Refusal;
+use output::buffer::Output;
+use std::fmt;
 
-// Why a call is refused: for its width, 1, or for its number, 4.
-fn put_refusal(refusal: u64, width: u64, n: i64, out: &mut [u8]) -> usize {
-    let at = put_refused(refusal, out, 0);
-    if refusal == 1 {
-        let at = put_width_limit(width, out, at);
-        return put(b"\n", out, at);
-    }
-    let at = put(b"argument 1", out, at);
-    let at = put_is(n, out, at);
-    let at = put(b"must be a fixnum", out, at);
-    put_range(width, out, at)
+// The line of a refused conversion: for its width, or for its number.
+#[derive(Clone, Copy)]
+struct RefusedConversion {
+    refusal: Refusal,
+    width: u64,
+    n: i64,
 }
 
-fn reply_numbers(width: u64, n: i64, out: &mut [u8]) -> Reply {
-    let answer = fixnum_to_flonum(width, n);
-    if let Answer::Refused(refusal) = answer {
-        return refused(put_refusal(refusal, width, n, out));
+impl fmt::Display for RefusedConversion {
+    fn fmt<W: fmt::Write>(&self, f: &mut fmt::Formatter<W>) -> fmt::Result {
+        let RefusedConversion { refusal, width, n } = *self;
+        let head = Refused(refusal);
+        match refusal {
+            Refusal::Width => writeln!(f, "{head}{}", width_limit(width)),
+            _ => writeln!(
+                f,
+                "{head}argument 1 is {n}: it must be a fixnum{}",
+                Range(width)
+            ),
+        }
     }
-    let at = put_value(answer, out, 0);
-    done(put(b"\n", out, at))
 }
 
 // A flonum is no integer, though it is a number.
-fn integer(expected: Expected) -> Expected {
-    match expected {
-        Expected::Number => Expected::Integer,
-        _ => expected,
+fn integer(trouble: Trouble) -> Trouble {
+    match trouble.expected {
+        Expected::Number => Trouble {
+            expected: Expected::Integer,
+            ..trouble
+        },
+        _ => trouble,
     }
 }
 
-fn reply_at(width: u64, line: &[u8], out: &mut [u8]) -> Reply {
-    match number(line, 4) {
-        Given::Number(n) => {
-            if has_word(line, 5) {
-                return trouble(line, 5, Expected::End, out);
-            }
-            reply_numbers(width, n, out)
+pub fn reply_conversion(line: Line, out: &mut Output) -> Result<Status, Trouble> {
+    let width = line.width(3)?;
+    let n = line.number(4).map_err(integer)?;
+    ends_before(line, 5)?;
+    let answer = fixnum_to_flonum(width, n);
+    if let Answer::Refused(number) = answer {
+        if let Some(refusal) = refusal_of(number) {
+            out.print(RefusedConversion { refusal, width, n });
         }
-        Given::Bad(expected) => trouble(line, 4, integer(expected), out),
+        return Ok(Status::Refused);
     }
-}
-
-pub fn reply_conversion(line: &[u8], out: &mut [u8]) -> Reply {
-    match width(line, 3) {
-        Natural::Number(width) => reply_at(width, line, out),
-        Natural::Bad(expected) => trouble(line, 3, expected, out),
-    }
+    put_value(answer, out);
+    Ok(Status::Done)
 }

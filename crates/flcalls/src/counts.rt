@@ -1,16 +1,12 @@
-// How many words an operation takes behind its name, by its line among the flonum operations.
+// How many words an operation takes behind its name.
+use line::refusal::Counts;
+use names::FlonumOperation;
 
-// flextremes
-pub const EXTREMES: u64 = 9;
-
-pub fn least(index: u64) -> u64 {
-    if index == 1 { 2 } else { 1 }
-}
-
-pub fn most(index: u64) -> u64 {
-    match index {
-        1 => 2,
-        EXTREMES => 4,
-        _ => 1,
-    }
+pub fn counts(operation: FlonumOperation) -> Counts {
+    let (least, most) = match operation {
+        FlonumOperation::FromFixnum => (2, 2),
+        FlonumOperation::Extremes => (1, 4),
+        _ => (1, 1),
+    };
+    Counts { least, most }
 }

@@ -1,82 +1,35 @@
 // `fl flextremes`.
 use super::answer::put_flonum;
-use super::counts::{EXTREMES, least, most};
-use super::number::{Flonum, flonum_at};
-use flonum::extremes::flextremes;
-use line::refusal::{put_count_rule, put_refused};
-use line::reply::{Reply, done, refused, trouble};
-use line::trouble::Expected;
-use line::{count, count_past};
-use names::Table;
-use output::put;
-
-// The flonums of words. `bad` is the first word that is none, or 0.
-#[derive(Clone, Copy)]
-struct Flonums {
-    bad: usize,
-    expected: Expected,
-    values: [f64; 4],
-}
-
-// The words past the second. The first four are kept, and where there are fewer the others are 0.
-fn take_flonums(line: &[u8]) -> Flonums {
-    let last = count(line);
-    let mut values = [0.0; 4];
-    let mut i = 2;
-    while i < last {
-        match flonum_at(line, i + 1) {
-            Flonum::Number(x) => {
-                if i < 6 {
-                    values[i - 2] = x;
-                }
-            }
-            Flonum::Bad(expected) => {
-                return Flonums {
-                    bad: i + 1,
-                    expected,
-                    values,
-                };
-            }
-        }
-        i += 1;
-    }
-    Flonums {
-        bad: 0,
-        expected: Expected::Flonum,
-        values,
-    }
-}
+use super::counts::counts;
+use super::number::flonums;
+use flonum::extremes::{Extremes, flextremes};
+use line::Line;
+use line::refusal::{Refused, WrongCount, refusal_of};
+use line::trouble::{Status, Trouble};
+use names::{FlonumOperation, Operation};
+use output::buffer::Output;
 
 // The number of flonums is all that a call is refused for.
-fn wrong_count(refusal: u64, count: u64, out: &mut [u8]) -> Reply {
-    let at = put_refused(refusal, out, 0);
-    let at = put_count_rule(
-        Table::Flonum,
-        EXTREMES,
-        least(EXTREMES),
-        most(EXTREMES),
+fn wrong_count(count: u64) -> WrongCount {
+    WrongCount {
+        operation: Operation::Flonum(FlonumOperation::Extremes),
+        counts: counts(FlonumOperation::Extremes),
         count,
-        out,
-        at,
-    );
-    refused(put(b"\n", out, at))
+    }
 }
 
-pub fn reply_extremes(line: &[u8], between: &[u8], out: &mut [u8]) -> Reply {
-    let given = take_flonums(line);
-    let expected = given.expected;
-    if given.bad != 0 {
-        return trouble(line, given.bad, expected, out);
-    }
-    let count = count_past(line, 2) as u64;
-    let args = given.values;
+pub fn reply_extremes(line: Line, between: &str, out: &mut Output) -> Result<Status, Trouble> {
+    let args = flonums(line, 2)?;
+    let count = line.count_past(2) as u64;
     let answer = flextremes(args, count);
-    if answer.refusal != 0 {
-        return wrong_count(answer.refusal, count, out);
+    if let Some(refusal) = refusal_of(answer.refusal) {
+        out.print(format_args!("{}{}\n", Refused(refusal), wrong_count(count)));
+        return Ok(Status::Refused);
     }
-    let values = answer.values;
-    let at = put_flonum(values.smallest, out, 0);
-    let at = put(between, out, at);
-    let at = put_flonum(values.largest, out, at);
-    done(put(b"\n", out, at))
+    let Extremes { smallest, largest } = answer.values;
+    put_flonum(smallest, out);
+    out.print(between);
+    put_flonum(largest, out);
+    out.put(b"\n");
+    Ok(Status::Done)
 }

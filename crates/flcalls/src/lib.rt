@@ -9,49 +9,46 @@ mod number;
 
 use answer::put_value;
 use conversion::reply_conversion;
-use counts::EXTREMES;
 use extremes::reply_extremes;
 use flonum::answer::Answer;
-use line::number::line_of;
-use line::reply::{Reply, done, trouble};
-use line::trouble::Expected;
-use names::Table;
-use number::{Flonum, flonum_at, has_word};
-use output::put;
+use line::Line;
+use line::trouble::{Expected, Status, Trouble};
+use names::FlonumOperation;
+use number::{ends_before, flonum};
+use output::buffer::Output;
 
-// An operation on one flonum, by its line among the flonum operations.
-fn call(index: u64, x: f64) -> Answer {
-    match index {
-        2 => flonum::flfloor(x),
-        3 => flonum::flceiling(x),
-        4 => flonum::fltruncate(x),
-        5 => flonum::flround(x),
-        6 => flonum::flabs(x),
-        7 => flonum::flnan(x),
-        _ => flonum::flfinite(x),
-    }
-}
-
-fn reply_one(index: u64, line: &[u8], out: &mut [u8]) -> Reply {
-    match flonum_at(line, 3) {
-        Flonum::Number(x) => {
-            if has_word(line, 4) {
-                return trouble(line, 4, Expected::End, out);
-            }
-            let at = put_value(call(index, x), out, 0);
-            done(put(b"\n", out, at))
-        }
-        Flonum::Bad(expected) => trouble(line, 3, expected, out),
-    }
+// A call of one flonum.
+fn reply_one<F: FnOnce(f64) -> Answer>(
+    call: F,
+    line: Line,
+    out: &mut Output,
+) -> Result<Status, Trouble>
+    requires { F.IsAlwaysCallable call }
+{
+    let x = flonum(line, 3)?;
+    ends_before(line, 4)?;
+    put_value(call(x), out);
+    Ok(Status::Done)
 }
 
 // The text between the two results of flextremes is given.
-pub fn reply_fl(line: &[u8], between: &[u8], out: &mut [u8]) -> Reply {
-    let index = line_of(line, 2, Table::Flonum);
-    match index {
-        0 => trouble(line, 2, Expected::FlonumOperation, out),
-        1 => reply_conversion(line, out),
-        EXTREMES => reply_extremes(line, between, out),
-        _ => reply_one(index, line, out),
+pub fn reply_fl(line: Line, between: &str, out: &mut Output) -> Result<Status, Trouble> {
+    let operation = line
+        .word(2)
+        .and_then(FlonumOperation::named)
+        .ok_or(Trouble {
+            word: 2,
+            expected: Expected::FlonumOperation,
+        })?;
+    match operation {
+        FlonumOperation::FromFixnum => reply_conversion(line, out),
+        FlonumOperation::Floor => reply_one(flonum::flfloor, line, out),
+        FlonumOperation::Ceiling => reply_one(flonum::flceiling, line, out),
+        FlonumOperation::Truncate => reply_one(flonum::fltruncate, line, out),
+        FlonumOperation::Round => reply_one(flonum::flround, line, out),
+        FlonumOperation::Abs => reply_one(flonum::flabs, line, out),
+        FlonumOperation::Nan => reply_one(flonum::flnan, line, out),
+        FlonumOperation::Finite => reply_one(flonum::flfinite, line, out),
+        FlonumOperation::Extremes => reply_extremes(line, between, out),
     }
 }
