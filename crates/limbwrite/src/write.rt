@@ -66,6 +66,7 @@ fn put_last(operation: Operation, x: &[u32], y: &[u32], piece: Piece, from: usiz
     put_limbs(operation, x, y, x, rest, &mut part[rest..]);
 }
 
+#[tactic(auto, unfolding(limbwords::specs::Results::Proper))]
 fn write_shift_left(x: &[u32], by: u64, part: &mut [u32])
     requires x_nonzero { (0 < length x.now) × (by < 2 ^ 32) }
     requires part_bound { length part.old < 2 ^ 32 }
@@ -100,6 +101,7 @@ fn write_shift_right(x: &[u32], by: u64, part: &mut [u32])
     put_windows(x, by, part);
 }
 
+#[tactic(auto, unfolding(limbwords::specs::Results::Proper))]
 fn write_field(x: &[u32], start: u64, end: u64, part: &mut [u32])
     requires x_nonzero { 0 < length x.now }
     requires start_le_end { (start ≤ end) × (end < 2 ^ 32) }
@@ -125,6 +127,7 @@ fn write_field(x: &[u32], start: u64, end: u64, part: &mut [u32])
 //
 // A limb that lies whole in one of the three pieces is a window of its operand. One that lies across an end of the field is put
 // together bit by bit; in such a limb the field may both begin and end.
+#[tactic(auto, unfolding(limbwords::specs::Results::Proper))]
 fn write_copy_field(x: &[u32], y: &[u32], start: u64, end: u64, part: &mut [u32])
     requires x_nonzero { (0 < length x.now) × (0 < length y.now) }
     requires start_le_end { (start ≤ end) × (end < 2 ^ 32) }
@@ -164,6 +167,7 @@ fn write_copy_field(x: &[u32], y: &[u32], start: u64, end: u64, part: &mut [u32]
 //                          end         middle   start
 //
 // Limbs are written as in write_copy_field, from four pieces.
+#[tactic(auto, unfolding(limbwords::specs::Results::Proper))]
 fn write_rotate(x: &[u32], start: u64, end: u64, by: u64, part: &mut [u32])
     requires x_nonzero { 0 < length x.now }
     requires start_le_end { (start ≤ end) × (end < 2 ^ 32) }
@@ -213,6 +217,7 @@ fn write_reverse(x: &[u32], start: u64, end: u64, part: &mut [u32])
 }
 
 // The first n limbs, by the operation's own writer.
+#[tactic(auto, unfolding(limbwords::specs::Results::Proper))]
 pub fn write(operation: Operation, x: &[u32], y: &[u32], z: &[u32], n: usize, part: &mut [u32])
     requires x_nonzero { 0 < length x.now }
     requires y_nonzero { 0 < length y.now }

@@ -6,12 +6,6 @@ use Rattle.limbsegments.proofs.Parts.{puts-part}
 use Rattle.outcomes.proofs.PutsLaws.{puts-join}
 use Rattle.limbwrite.proofs.write.put_last.Goals as goal
 
-pub put_piece-rest-requires-clause-x_nonzero : goal.put_piece-rest-requires-clause-x_nonzero
-put_piece-rest-requires-clause-x_nonzero c = (c.requires.x_nonzero.0, (c.requires.x_nonzero.1, c.requires.x_nonzero.0))
-
-pub put_limbs-requires-clause-x_nonzero : goal.put_limbs-requires-clause-x_nonzero
-put_limbs-requires-clause-x_nonzero c = (c.requires.x_nonzero.0, (c.requires.x_nonzero.1, c.requires.x_nonzero.0))
-
 pub returns : goal.returns
 returns c =
     let piece = c.put_piece-rest.ensures in

@@ -11,11 +11,6 @@ use Rattle.limbwrite.proofs.SegmentLaws.{moved-limb}
 use Rattle.outcomes.proofs.PutsLaws.{puts-join, puts-as}
 use Rattle.limbwrite.proofs.write.put_piece.Goals as goal
 
-pub put_limbs-requires : goal.put_limbs-requires
-put_limbs-requires c =
-    let i = c.first_past-inner.ensures in
-    record { x_nonzero = (c.requires.x_nonzero.0, (c.requires.x_nonzero.1.0, c.requires.x_nonzero.0)); proper = c.requires.proper; part_bound = grind (arith, places, i) }
-
 pub returns : goal.returns
 returns c =
     let p = c.first_past-inner.ensures in

@@ -1,7 +1,5 @@
 -- `limbwrite::write::write` meets its contract. Assumes nothing.
-use Rattle.std.proofs.lemmas.List.{places}
 use Prim.Native.Nat.{ℕ, ◌≤◌}
-use native.Mathlib.Omega.{arith}
 use mathlib.Core.Path.{◌≡◌, sym, subst}
 use mathlib.Core.List.{List}
 use borrow.Rule.Slice.PartMut.{put_mid}
@@ -22,30 +20,6 @@ arm : (x y z : ℤ) (a : List ℕ) {ys : List ℕ} (n : ℕ) {o r : Operation} �
     → let b = take n a in Puts 0 (limb_at (meaning r x y z)) b ys 0 (length b) → Puts 0 (limb_at (meaning o x y z)) a (put_mid 0 n a ys) 0 n
 arm x y z a {ys} n e h w =
     subst (λ (r : Operation). Puts 0 (limb_at (meaning r x y z)) a (put_mid 0 n a ys) 0 n) (sym e) (puts-first a n w (length-take-le n a h) h)
-
-pub write_shift_left-requires : goal.write_shift_left-requires
-unfolding Proper meaning
-write_shift_left-requires c = record { x_nonzero = (c.requires.x_nonzero, proper c.in-ShiftLeft.is c.requires.proper); part_bound = grind (arith, places) }
-
-pub write_shift_right-requires : goal.write_shift_right-requires
-unfolding Proper meaning
-write_shift_right-requires c = record { x_nonzero = (c.requires.x_nonzero, proper c.in-ShiftRight.is c.requires.proper); part_bound = grind (arith, places) }
-
-pub write_field-requires : goal.write_field-requires
-unfolding Proper meaning
-write_field-requires c = record { x_nonzero = c.requires.x_nonzero; start_le_end = proper c.in-Field.is c.requires.proper; part_bound = grind (arith, places) }
-
-pub write_copy_field-requires : goal.write_copy_field-requires
-unfolding Proper meaning
-write_copy_field-requires c = record { x_nonzero = (c.requires.x_nonzero, c.requires.y_nonzero); start_le_end = proper c.in-CopyField.is c.requires.proper; part_bound = grind (arith, places) }
-
-pub write_rotate-requires : goal.write_rotate-requires
-unfolding Proper meaning
-write_rotate-requires c = let q = proper c.in-Rotate.is c.requires.proper in record { x_nonzero = c.requires.x_nonzero; start_le_end = q.0; by_bound = q.1; part_bound = grind (arith, places) }
-
-pub write_reverse-requires : goal.write_reverse-requires
-unfolding Proper meaning
-write_reverse-requires c = record { x_nonzero = c.requires.x_nonzero; start_le_end = proper c.in-Reverse.is c.requires.proper; part_bound = grind (arith, places) }
 
 pub returns-in-Logical : goal.returns-in-Logical
 unfolding Proper meaning

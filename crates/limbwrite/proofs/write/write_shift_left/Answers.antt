@@ -1,9 +1,8 @@
 -- `limbwrite::write::write_shift_left` meets its contract. Assumes nothing.
-use native.Mathlib.Omega.{arith}
 use mathlib.Core.Path.{◌≡◌}
 use mathlib.Core.List.{◌++◌}
 use lib.ListN.{length, take, drop}
-use Rattle.limbwords.specs.Results.{meaning, Proper}
+use Rattle.limbwords.specs.Results.{meaning}
 use Rattle.outcomes.specs.Puts.{Puts}
 use Rattle.limbwrite.proofs.SegmentLaws.{zero-limb, moved-left}
 use Rattle.std.proofs.Common.{rules}
@@ -12,11 +11,9 @@ use Rattle.limbsegments.proofs.Parts.{puts-whole, puts-first}
 use Rattle.outcomes.proofs.PutsLaws.{puts-join, puts-as}
 use Rattle.limbwrite.proofs.write.write_shift_left.Goals as goal
 
-pub put_last-requires : goal.put_last-requires
-unfolding meaning Proper
-put_last-requires c =
-    let l = c.first_past-low.ensures in
-    record { x_nonzero = (c.requires.x_nonzero.0, c.requires.x_nonzero.0); proper = c.requires.x_nonzero.1; moved = moved-left _ _ _; from_bound = (omega arith, omega arith); from_le_length = grind (arith, places, l) }
+pub put_last-requires-clause-moved : goal.put_last-requires-clause-moved
+unfolding meaning
+put_last-requires-clause-moved c = moved-left _ _ _
 
 pub returns : goal.returns
 unfolding meaning
