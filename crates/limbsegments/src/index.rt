@@ -1,12 +1,6 @@
 // Indices of limbs.
-ghost use Rattle.std.specs.Prelude.{◌≡◌, ◌+◌, ◌-◌, ◌≤◌};
+ghost use Rattle.std.specs.Prelude.{◌≤◌};
 ghost use Rattle.limbsegments.specs.Inner.{Past};
-
-pub fn max(a: usize, b: usize) -> usize
-    ensures { ((a ≤ result) × (b ≤ result)) × (result ≤ a + b) }
-{
-    if a < b { b } else { a }
-}
 
 // The first limb, from one index up to another, that does not lie whole below a position.
 pub fn first_past(at: u64, from: usize, to: usize) -> usize

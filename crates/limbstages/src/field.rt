@@ -9,7 +9,6 @@ ghost use Rattle.limbstages.specs.Stages.{is_operand};
 
 use super::numbers::Field;
 use super::run::run;
-use limbsegments::index::max;
 use limbwords::result::Operation;
 use outcomes::refusal::Refusal;
 
@@ -17,7 +16,7 @@ use outcomes::refusal::Refusal;
 fn enough_for(x: &[u32], field: Field) -> usize
     ensures { ((length x.now ≤ result) × (field.end < 32 * result)) × (result ≤ length x.now + 1024) }
 {
-    max(x.len(), (field.end / 32) as usize + 1)
+    x.len().max((field.end / 32) as usize + 1)
 }
 
 // An operation that changes no bit of x from the end of a field on.
