@@ -20,7 +20,7 @@ use Rattle.limbwords.proofs.ValueLaws.{value-shortest}
 use Rattle.limbstages.specs.declared.Written.{Written}
 use Rattle.limbstages.specs.Buffer.{stored, written}
 use Rattle.limbstages.specs.Stages.{most_limbs, is_operand, is_field, field, natural}
-use Rattle.limbstages.proofs.StageLaws.{operand-passed, operand-lengths}
+use Rattle.limbstages.proofs.StageLaws.{operand-passed, operand_lengths}
 use Rattle.limbs.specs.Operations.{rotate_outcome, reverse_outcome}
 use Rattle.limb_laws.specs.Replies.{Output, reply_to, limbs_in, has_room, Done, Legal}
 use Rattle.limb_laws.specs.Lists.{Step, calls_of, outcome_of, reply_of, hand_on, all_fit, run_steps, is_done, ample, Run, Gives}
@@ -92,7 +92,7 @@ module _ (start end : ℕ) (h : start < end) (k : end ≤ 32767) where
         go : (d : Bool) → has_room (reply_to (guard d 5 (done result)) s.to) ≡ true
         go true =
             has_room-done s.to result
-            (le_trans (operand-lengths (shortest result) (shortest-legal result result_fits).accepted).1 (leb-true 1024 (capacity s.to.buffer s.to.first) a))
+            (le_trans (operand_lengths (shortest result) (shortest-legal result result_fits).accepted).1 (leb-true 1024 (capacity s.to.buffer s.to.first) a))
         go false = refl
 
     module _ (r : has_room (reply_of start end s x) ≡ true) where

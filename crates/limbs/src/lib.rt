@@ -4,7 +4,7 @@
 // takes its operands, its numbers, the output buffer and the first limb to write. It writes the shortest limbs of the result from there
 // on, and changes no other limb. Refusals, in this order: 7 for an operand of no limb, of more than 1,024, or of more than it needs, 5 for
 // a number outside its domain, 6 for a result of more than 1,024 limbs, 8 for a buffer that is too short. A refused call changes nothing.
-#![tactic(auto)]
+#![tactic(auto, using(limbstages::proofs::StageLaws::operand_lengths), unfolding(outcomes::specs::Outcome::guard, outcomes::specs::Outcome::guard_at, outcomes::specs::Refusal::outcome_of, limbstages::specs::Stages::operand, limbstages::specs::Stages::natural, crate::specs::Operations::bit_count_outcome, crate::specs::Operations::first_bit_set_outcome, crate::specs::Operations::length_outcome, crate::specs::Operations::word_outcome, crate::specs::Operations::bit_set_outcome))]
 
 ghost use Rattle.std.specs.Prelude.{◌≡◌, true, ◌&&◌, ◌||◌};
 ghost use Rattle.std.specs.Bool.{xor};

@@ -18,7 +18,7 @@ use Rattle.outcomes.proofs.OutcomeLaws.{passed, failed}
 use Rattle.limbwords.specs.Value.{value, limb_count}
 use Rattle.limbwords.proofs.ValueLaws.{pos-injective, value-length}
 use Rattle.limbstages.specs.Stages.{most_limbs, is_operand, sized}
-use Rattle.limbstages.proofs.StageLaws.{operand-lengths}
+use Rattle.limbstages.proofs.StageLaws.{operand_lengths}
 
 -- ---- the size of a result
 
@@ -60,7 +60,7 @@ capped_le by e = by-cap (λ k. k ≤ 32768) by e (λ h. omega arith) (λ h. omeg
 
 module _ (xs : List ℕ) (legal : is_operand xs ≡ true) where
   pub legal-lengths : (0 < length xs) × (length xs ≤ 1024)
-  legal-lengths = operand-lengths xs legal
+  legal-lengths = operand_lengths xs legal
 
   -- a right shift needs no limbs for those that it drops whole
   pub right-enough : (k m : ℕ) → 0 < m → length xs ≤ m + k / 32 → bit_length (shift_right (value xs) k) < 32 * m

@@ -50,15 +50,11 @@ limb-operand n =
     eq-eqb 1 (limb_count z) (omega (arith, limb_count-positive z, limb_count-le z 1 (value-length (n ∷ []) (lit< tt))))
 
 -- what the code needs of a legal operand
-pub operand-lengths : (xs : List ℕ) → is_operand xs ≡ true → (0 < length xs) × (length xs ≤ 1024)
-operand-lengths xs h = limbs-lengths xs (operand-limbs xs h)
+pub operand_lengths : (xs : List ℕ) → is_operand xs ≡ true → (0 < length xs) × (length xs ≤ 1024)
+operand_lengths xs h = limbs-lengths xs (operand-limbs xs h)
 
 pub operand-length : (xs : List ℕ) → is_operand xs ≡ true → 0 < length xs
-operand-length xs h = (operand-lengths xs h).0
-
-pub operands-lengths : (xs ys : List ℕ) → is_operand xs && is_operand ys ≡ true → ((0 < length xs) × (length xs ≤ 1024)) × ((0 < length ys) × (length ys ≤ 1024))
-operands-lengths xs ys h =
-    (operand-lengths xs (both_left (is_operand xs) (is_operand ys) h), operand-lengths ys (both_right (is_operand xs) (is_operand ys) h))
+operand-length xs h = (operand_lengths xs h).0
 
 -- what the code's test t has found, where it goes on and where it refuses
 pub legal : {t b : Bool} → t ≡ b → not t ≡ false → b ≡ true
@@ -72,27 +68,9 @@ module _ {A : Type 0} where
   unfolding operand
   operand-passed xs o h = passed 7 o h
 
-  pub operand-failed : (xs : List ℕ) (o : Outcome A) → is_operand xs ≡ false → operand xs o ≡ refuse 7
-  unfolding operand
-  operand-failed xs o h = failed 7 o h
-
   pub operand-twice : (xs : List ℕ) (o : Outcome A) → operand xs (operand xs o) ≡ operand xs o
   unfolding operand
   operand-twice xs o = guard-twice (is_operand xs) 7 o
-
-  -- two operands, one of which may be none
-  pub operands-failed : (xs ys : List ℕ) (o : Outcome A) → is_operand xs && is_operand ys ≡ false → operand xs (operand ys o) ≡ refuse 7
-  unfolding operand guard guard_at
-  operands-failed xs ys o h = go (is_operand xs) (is_operand ys) h
-    where
-      go : (a b : Bool) → a && b ≡ false → guard a 7 (guard b 7 o) ≡ refuse 7
-      go true true e = absurd (true≢false e)
-      go true false e = refl
-      go false b e = refl
-
-  pub operands-passed : (xs ys : List ℕ) (o : Outcome A) → is_operand xs && is_operand ys ≡ true → operand xs (operand ys o) ≡ o
-  operands-passed xs ys o h =
-      operand-passed xs (operand ys o) (both_left (is_operand xs) (is_operand ys) h) ∙ operand-passed ys o (both_right (is_operand xs) (is_operand ys) h)
 
   pub operand-legal : (xs : List ℕ) (o : Outcome A) {a : A} → operand xs o ≡ done a → (is_operand xs ≡ true) × (o ≡ done a)
   unfolding operand

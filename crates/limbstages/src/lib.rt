@@ -1,5 +1,5 @@
 // The stages of a limb call: what is checked before a result is measured, and how a result is stored.
-#![tactic(auto)]
+#![tactic(auto, unfolding(crate::specs::Inner::field_of, crate::specs::Inner::rotation_of, crate::specs::Inner::new_bit_of, outcomes::specs::Outcome::map_done, outcomes::specs::Outcome::guard, outcomes::specs::Outcome::guard_at, outcomes::specs::Refusal::outcome_of, outcomes::specs::Refusal::code_of, crate::specs::Stages::operand, crate::specs::Stages::is_operand, crate::specs::Stages::is_field, crate::specs::Stages::is_new_bit))]
 
 pub mod answer;
 pub mod check;

@@ -8,7 +8,7 @@ use Rattle.outcomes.specs.Outcome.{done}
 use Rattle.limbwords.specs.Value.{value}
 use Rattle.limbwords.specs.Results.{meaning, Proper}
 use Rattle.limbs.specs.Operations.{bit_field_outcome}
-use Rattle.limbstages.proofs.StageLaws.{operand-twice, operand-lengths}
+use Rattle.limbstages.proofs.StageLaws.{operand-twice, operand_lengths}
 use Rattle.limbs.proofs.CheckLaws.{LegalField, field-refused, field-legal}
 use Rattle.limbstages.proofs.WritesLaws.{writes_as, writes-exited}
 use Rattle.limbs.proofs.bitwise_bit_field.Goals as goal
@@ -23,7 +23,7 @@ unfolding meaning Proper
 run-requires c =
     let l = legal-field (goal.at.run-requires c).In_ok-start in
     let last = l.last in
-    let x = (operand-lengths _ l.first).0 in
+    let x = (operand_lengths _ l.first).0 in
     record { x_nonzero = x; y_nonzero = x; z_nonzero = x; proper = ((l.order, omega arith), (omega arith, omega arith)); z_bound = omega (arith, bit_field-length (value c.args.x.now) c.in_ok-start.field-0.start c.in_ok-start.field-0.end) }
 
 pub returns : goal.returns
@@ -36,6 +36,3 @@ pub returns-in_err-start : goal.returns-in_err-start
 unfolding bit_field_outcome
 returns-in_err-start c =
     writes-exited _ _ (sym (operand-twice _ _) ∙ field-refused _ _ c.ranges.start c.ranges.end c.check_field.ensures _ c.in_err-start.was) c.from_residual.ensures.1
-
-pub overflow_sub-enough : goal.overflow_sub-enough
-overflow_sub-enough c = (legal-field (goal.at.overflow_sub-enough c).In_ok-start).order

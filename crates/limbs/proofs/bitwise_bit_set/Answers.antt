@@ -10,8 +10,8 @@ use Rattle.outcomes.specs.Outcome.{done}
 use Rattle.outcomes.specs.Refusal.{outcome_of}
 use Rattle.limbwords.specs.Value.{value}
 use Rattle.limbs.specs.Operations.{bit_set_outcome}
-use Rattle.limbstages.proofs.StageLaws.{operand-length, exited}
-use Rattle.limbs.proofs.CheckLaws.{natural-refused, natural-legal}
+use Rattle.limbstages.proofs.StageLaws.{operand-length}
+use Rattle.limbs.proofs.CheckLaws.{natural-legal}
 use Rattle.limbs.proofs.NumberLaws.{bit-from}
 use Rattle.limbs.proofs.bitwise_bit_set.Goals as goal
 
@@ -26,8 +26,3 @@ returns c =
     let l = natural-legal c.args.x.now c.ranges.position c.check_natural.ensures c.in_ok-at.was in
     ap done (back (record { sfits = c.from.type_inv }) ∙ c.from.ensures ∙ bit-from (value c.args.x.now) _ _ c.window.ensures)
     ∙ sym (l.1.1 _ ∙ ap (λ (k : ℤ). done (cond (testbit (value c.args.x.now) (nat_abs k)) (pos 1) (pos 0))) l.1.0)
-
-pub returns-in_err-at : goal.returns-in_err-at
-unfolding bit_set_outcome outcome_of
-returns-in_err-at c =
-    ap outcome_of (exited _ c.from_residual.ensures.1) ∙ sym (natural-refused _ c.ranges.position c.check_natural.ensures _ c.in_err-at.was)

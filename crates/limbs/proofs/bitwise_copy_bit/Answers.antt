@@ -44,11 +44,3 @@ pub returns-in_err-position : goal.returns-in_err-position
 unfolding copy_bit_outcome
 returns-in_err-position c =
     writes-exited _ _ (new-bit-refused _ c.ranges.position c.ranges.bit c.check_new_bit.ensures _ c.in_err-position.was) c.from_residual.ensures.1
-
-pub overflow_add-end : goal.overflow_add-end
-overflow_add-end c = record { fits = omega (arith, (legal-bit (goal.at.overflow_add-end c).In_ok-position).last) }
-
-pub invariant_of-field : goal.invariant_of-field
-invariant_of-field c =
-    let last = (legal-bit (goal.at.invariant_of-field c).In_ok-position).last in
-    record { ordered = omega arith; within = omega arith }

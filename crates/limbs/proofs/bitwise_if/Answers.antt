@@ -5,7 +5,7 @@ use Rattle.outcomes.specs.Outcome.{done}
 use Rattle.limbwords.specs.Results.{meaning, Proper}
 use Rattle.limbs.specs.Operations.{if_outcome}
 use Rattle.limbs.proofs.LengthLaws.{if-enough}
-use Rattle.limbstages.proofs.StageLaws.{operand-lengths, operand-ok, operand-err, operands-ok, operands-err}
+use Rattle.limbstages.proofs.StageLaws.{operand_lengths, operand-ok, operand-err, operands-ok, operands-err}
 use Rattle.limbstages.proofs.WritesLaws.{writes_as, writes-exited}
 use Rattle.limbs.proofs.bitwise_if.Goals as goal
 
@@ -24,9 +24,9 @@ pub run-requires : goal.run-requires
 unfolding meaning Proper
 run-requires c =
     let l = (operands-ok _ _ (done (tt {0})) _ c.in_ok-check_operands.ensures).0 in
-    let x = operand-lengths _ l.0 in
-    let y = operand-lengths _ l.1 in
-    let z = operand-lengths _ (operand-ok _ (done (tt {0})) _ c.in_ok-check_operand.ensures).0 in
+    let x = operand_lengths _ l.0 in
+    let y = operand_lengths _ l.1 in
+    let z = operand_lengths _ (operand-ok _ (done (tt {0})) _ c.in_ok-check_operand.ensures).0 in
     let m = c.max.ensures in
     let n = c.max-enough.ensures in
     record { x_nonzero = x.0; y_nonzero = y.0; z_nonzero = z.0; proper = (tt, (omega arith, omega arith)); z_bound = if-enough _ _ _ _ x.0 y.0 z.0 (omega arith) (omega arith) (omega arith) }

@@ -8,23 +8,16 @@ use mathlib.Core.Path.{sym, ap, ◌∙◌}
 use Rattle.outcomes.specs.Outcome.{done}
 use Rattle.outcomes.specs.Refusal.{outcome_of}
 use Rattle.limbs.specs.Operations.{length_outcome}
-use Rattle.limbstages.proofs.StageLaws.{exited, operand-ok, operand-err, operand-lengths, operand-count}
+use Rattle.limbstages.proofs.StageLaws.{operand-ok, operand_lengths, operand-count}
 use Rattle.limbs.proofs.bitwise_length.Goals as goal
 use Rattle.limbs.proofs.bitwise_length.Goals.{After-bit_length}
 
-pub returns-in_err-check_operand : goal.returns-in_err-check_operand
-unfolding length_outcome outcome_of
-returns-in_err-check_operand c =
-    ap outcome_of (exited _ c.from_residual.ensures.1) ∙ sym (operand-err _ _ _ c.in_err-check_operand.ensures)
-
-pub bit_length-requires : goal.bit_length-requires
-bit_length-requires c =
-    let l = (operand-ok _ (done (tt {0})) _ c.in_ok-check_operand.ensures).0 in
-    record { x_nonzero = operand-lengths _ l; x_len = operand-count _ l }
+pub bit_length-requires-clause-x_len : goal.bit_length-requires-clause-x_len
+bit_length-requires-clause-x_len c = operand-count _ (operand-ok _ (done (tt {0})) _ c.in_ok-check_operand.ensures).0
 
 pub overflow_cast-result : goal.overflow_cast-result
 overflow_cast-result c =
-    let (positive, most) = operand-lengths _ (operand-ok _ (done (tt {0})) _ c.in_ok-check_operand.ensures).0 in
+    let (positive, most) = operand_lengths _ (operand-ok _ (done (tt {0})) _ c.in_ok-check_operand.ensures).0 in
     record { sfits = omega (arith, c.bit_length.ensures, value-length c.args.x.now positive) }
 
 pub returns : goal.returns

@@ -10,7 +10,7 @@ use Rattle.bits.proofs.LogicalLaws.{not-bitwise}
 use Rattle.outcomes.specs.Outcome.{done}
 use Rattle.limbwords.specs.Value.{limb_count}
 use Rattle.limbwords.specs.Results.{logic_of, meaning, Proper}
-use Rattle.limbstages.proofs.StageLaws.{operand-ok, operand-err, operand-lengths, operand-count}
+use Rattle.limbstages.proofs.StageLaws.{operand-ok, operand-err, operand_lengths, operand-count}
 use Rattle.limbstages.proofs.WritesLaws.{writes_as, writes-exited}
 use Rattle.limbs.specs.Operations.{not_outcome}
 use Rattle.limbs.proofs.bitwise_not.Goals as goal
@@ -28,7 +28,7 @@ pub store-requires : goal.store-requires
 unfolding meaning Proper logic_of
 store-requires c =
     let l = (operand-ok _ (done (tt {0})) _ c.in_ok-check_operand.ensures).0 in
-    let x = operand-lengths _ l in
+    let x = operand_lengths _ l in
     record { x_nonzero = x.0; y_nonzero = x.0; z_nonzero = x.0; proper = (tt, omega (arith, x.1)); n_value = operand-count _ l ∙ not-count _ }
 
 pub returns : goal.returns

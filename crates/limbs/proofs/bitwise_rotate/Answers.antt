@@ -44,6 +44,3 @@ pub returns-in_err-field : goal.returns-in_err-field
 unfolding rotate_outcome
 returns-in_err-field c =
     writes-exited _ _ (rotation-refused _ c.ranges.start c.ranges.end c.ranges.count c.check_rotation.ensures _ c.in_err-field.was) c.from_residual.ensures.1
-
-pub overflow_sub-end : goal.overflow_sub-end
-overflow_sub-end c = (legal-field (goal.at.overflow_sub-end c).In_ok-field).order

@@ -37,9 +37,3 @@ returns-else-distance-lt0 c =
     (l.1
     ∙ shift-left _ l.0 (natural-pos c.args.distance (position-tested _ b ∙ ap not c.if-distance-lt0.false) (c.unsigned_abs-by.ensures.value ∙ ap nat_abs b)))
     c.shift_left.ensures
-
-pub shift_right-requires : goal.shift_right-requires
-shift_right-requires c = (operand-ok _ (done (tt {0})) _ c.in_ok-check_operand.ensures).0
-
-pub shift_left-requires : goal.shift_left-requires
-shift_left-requires c = (operand-ok _ (done (tt {0})) _ c.in_ok-check_operand.ensures).0

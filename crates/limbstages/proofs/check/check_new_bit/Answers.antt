@@ -9,18 +9,13 @@ use Rattle.outcomes.specs.Refusal.{outcome_of, code_of}
 use Rattle.outcomes.proofs.OutcomeLaws.{passed-by, failed-by}
 use Rattle.limbstages.specs.Inner.{new_bit_of}
 use Rattle.limbstages.specs.Stages.{is_new_bit, new_bit}
-use Rattle.limbstages.proofs.StageLaws.{legal, exited, operand-ok, operand-err, new-bit-numbers}
+use Rattle.limbstages.proofs.StageLaws.{legal, operand-ok, new-bit-numbers}
 use Rattle.limbstages.proofs.check.check_new_bit.Goals as goal
 use Rattle.limbstages.proofs.check.check_new_bit.Goals.{After-is_new_bit}
 
 -- the test of the numbers
 tested : (c : After-is_new_bit) → c.is_new_bit.result ≡ is_new_bit c.args.position c.args.bit
 tested c = let f = c.ranges in rw (back f.position, back f.bit) at c.is_new_bit.ensures
-
-pub returns-in_err-check_operand : goal.returns-in_err-check_operand
-unfolding new_bit_of map_done outcome_of
-returns-in_err-check_operand c =
-    ap new_bit_of (exited _ c.from_residual.ensures.1) ∙ sym (operand-err _ _ _ c.in_err-check_operand.ensures)
 
 pub returns-then-not-is_new_bit : goal.returns-then-not-is_new_bit
 unfolding new_bit_of map_done outcome_of code_of new_bit

@@ -4,13 +4,8 @@ use Rattle.words.proofs.WordLaws.{back}
 use Rattle.outcomes.specs.Outcome.{map_done}
 use Rattle.outcomes.specs.Refusal.{outcome_of}
 use Rattle.limbstages.specs.Inner.{rotation_of}
-use Rattle.limbstages.proofs.StageLaws.{exited, operand-ok, operand-err, field-ok, field-err, natural-ok, natural-err}
+use Rattle.limbstages.proofs.StageLaws.{exited, operand-ok, field-ok, field-err, natural-ok, natural-err}
 use Rattle.limbstages.proofs.check.check_rotation.Goals as goal
-
-pub returns-in_err-check_operand : goal.returns-in_err-check_operand
-unfolding rotation_of map_done outcome_of
-returns-in_err-check_operand c =
-    ap rotation_of (exited _ c.from_residual.ensures.1) ∙ sym (operand-err _ _ _ c.in_err-check_operand.ensures)
 
 pub returns-in_err-field : goal.returns-in_err-field
 unfolding rotation_of map_done outcome_of
