@@ -1,50 +1,29 @@
 // Bytes written in hexadecimal.
-use output::put;
+ghost use Rattle.std.specs.Prelude.{◌≤◌, length, IfOk};
+
+use line::trouble::Expected;
 use text::digit::{are_digits, digit};
 
 const BASE: u64 = 16;
 
-#[derive(Clone, Copy)]
-pub enum Decoded {
-    Bytes(usize),
-    Odd,
-    Malformed,
-}
-
-fn digit_at(digits: &[u8], i: usize) -> u64 {
-    if i < digits.len() {
-        digit(digits[i])
-    } else {
-        0
-    }
-}
-
-fn joined(high: u64, low: u64) -> u8 {
-    (high % BASE * BASE + low % BASE) as u8
+fn byte_of(pair: [u8; 2]) -> u8 {
+    let [high, low] = pair.map(|c| digit(c).unwrap_or(0) % BASE);
+    (high * BASE + low) as u8
 }
 
 // Puts the bytes at the start of out, and answers how many they are. What is beyond its end is cut off.
-fn put_bytes(digits: &[u8], out: &mut [u8]) -> usize {
-    let n = digits.len() / 2;
-    let mut filled = 0;
-    let mut k = 0;
-    while k < n {
-        let byte = joined(digit_at(digits, 2 * k), digit_at(digits, 2 * k + 1));
-        filled = put(&[byte], out, filled);
-        k += 1;
+pub fn decode(digits: &[u8], out: &mut [u8]) -> Result<usize, Expected>
+    ensures { IfOk result (λ n. n ≤ length out.new) }
+{
+    if digits.is_empty() || !are_digits(BASE, digits) {
+        return Err(Expected::Rule);
     }
-    filled
-}
-
-pub fn decode(digits: &[u8], out: &mut [u8]) -> Decoded {
-    if digits.len() == 0 {
-        return Decoded::Malformed;
+    let (pairs, rest) = digits.as_chunks::<2>();
+    if !rest.is_empty() {
+        return Err(Expected::EvenDigits);
     }
-    if !are_digits(BASE, digits) {
-        return Decoded::Malformed;
+    for (byte, pair) in out.iter_mut().zip(pairs) {
+        *byte = byte_of(*pair);
     }
-    if digits.len() % 2 == 1 {
-        return Decoded::Odd;
-    }
-    Decoded::Bytes(put_bytes(digits, out))
+    Ok(pairs.len().min(out.len()))
 }

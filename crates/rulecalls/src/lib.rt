@@ -3,9 +3,7 @@
 
 pub mod asked;
 mod explain;
-mod fault;
 mod hexadecimal;
-mod parts;
 pub mod reply;
 mod run;
 mod widths;

@@ -1,89 +1,82 @@
 // The answer to `rule`, of a rule's bytes.
-use super::asked::{Asked, BEFORE, Task, take_words};
-use super::hexadecimal::{Decoded, decode};
-use super::run::reply_run;
+use super::asked::{Asked, BEFORE, Task};
+use super::hexadecimal::decode;
+use super::run::Run;
 use super::widths::reply_widths;
-use line::reply::{Reply, TROUBLE, done, refused, trouble};
-use line::trouble::Expected;
-use line::word;
-use output::{put, put_if, put_natural};
+use line::Line;
+use line::refusal::Refused;
+use line::trouble::{Status, Trouble};
+use outcomes::refusal::Refusal;
+use output::buffer::Output;
 use rulereader::{Stored, read_rule, runs_at};
-use ruletext::breach::put_breach;
-use ruletext::tree::{inputs_needed, put_form, put_input};
-use ruletext::walk::less;
+use ruletext::breach::Breach;
+use ruletext::tree::{Form, Input, inputs_needed};
 
 // The width, and the form on a line of its own.
-fn reply_read(rule: &[u8], width: u64, from: usize, out: &mut [u8]) -> Reply {
-    let at = put(b"width ", out, 0);
-    let at = put_natural(runs_at(width), out, at);
-    let at = put_if(width == 0, b", stored as 0", out, at);
-    let at = put(b"\n", out, at);
-    let at = put_form(rule, from, out, at);
-    done(put(b"\n", out, at))
+fn reply_read(rule: &[u8], stored: Stored, out: &mut Output) -> Status {
+    let width = runs_at(stored.width);
+    let default = if stored.width == 0 {
+        ", stored as 0"
+    } else {
+        ""
+    };
+    let form = Form {
+        rule,
+        from: stored.form,
+    };
+    out.print(format_args!("width {width}{default}\n{form}\n"));
+    Status::Done
 }
 
 // `ql: the rule has x3, and 2 inputs are given`
-fn reply_missing(needed: u64, given: u64, out: &mut [u8]) -> Reply {
-    let at = put(b"ql: the rule has ", out, 0);
-    let at = put_input(less(needed, 1), out, at);
-    let at = put(b", and ", out, at);
-    let at = put_natural(given, out, at);
-    let at = put_if(given == 1, b" input is given\n", out, at);
-    Reply {
-        status: TROUBLE,
-        filled: put_if(given != 1, b" inputs are given\n", out, at),
-    }
-}
-
-// A rule that is run, at its width or at every one.
-fn reply_running(asked: Asked, rule: &[u8], width: u64, from: usize, out: &mut [u8]) -> Reply {
-    let given = asked.given as u64;
-    let needed = inputs_needed(rule, from);
-    if given < needed {
-        return reply_missing(needed, given, out);
-    }
-    let inputs = asked.inputs;
-    let task = asked.task;
-    match task {
-        Task::Widths => reply_widths(rule, from, inputs, out),
-        _ => reply_run(rule, runs_at(width), from, inputs, out),
-    }
+fn reply_missing(needed: u64, given: usize, out: &mut Output) -> Status {
+    let last = Input(needed.saturating_sub(1));
+    let inputs = if given == 1 { "input is" } else { "inputs are" };
+    out.print(format_args!("ql: the rule has {last}, and {given} {inputs} given\n"));
+    Status::Trouble
 }
 
 // The answer to words that can be read, about bytes.
-pub fn reply_bytes(asked: Asked, rule: &[u8], out: &mut [u8]) -> Reply {
-    let task = asked.task;
-    match read_rule(rule) {
-        Stored::Offends(offset) => refused(put_breach(rule, offset, out)),
-        Stored::Rule(width, from) => match task {
-            Task::Read => reply_read(rule, width, from, out),
-            _ => reply_running(asked, rule, width, from, out),
-        },
-    }
-}
-
-// A rule in hexadecimal.
-fn reply_digits(line: &[u8], asked: Asked, out: &mut [u8]) -> Reply {
-    let mut bytes = output::large_buffer();
-    let word = word(line, BEFORE);
-    let start = word.start;
-    let end = word.end;
-    match decode(&line[start..end], &mut bytes) {
-        Decoded::Bytes(k) => {
-            let n = put(b"", &mut bytes, k);
-            reply_bytes(asked, &bytes[..n], out)
+pub fn reply_bytes(asked: Asked, rule: &[u8], out: &mut Output) -> Status {
+    let stored = match read_rule(rule) {
+        Ok(stored) => stored,
+        Err(offence) => {
+            let head = Refused(Refusal::BadRule);
+            let breach = Breach {
+                rule,
+                offset: offence.offset,
+            };
+            out.print(format_args!("{head}{breach}\n"));
+            return Status::Refused;
         }
-        Decoded::Odd => trouble(line, BEFORE, Expected::EvenDigits, out),
-        Decoded::Malformed => trouble(line, BEFORE, Expected::Rule, out),
+    };
+    if asked.task == Task::Read {
+        return reply_read(rule, stored, out);
+    }
+    let needed = inputs_needed(rule, stored.form);
+    if (asked.given as u64) < needed {
+        return reply_missing(needed, asked.given, out);
+    }
+    let run = Run {
+        rule,
+        form: stored.form,
+        inputs: asked.inputs,
+    };
+    if asked.task == Task::Widths {
+        reply_widths(&run, out)
+    } else {
+        run.reply(runs_at(stored.width), out)
     }
 }
 
 // The answer to `rule`, with a rule in hexadecimal.
-pub fn reply_rule(line: &[u8], out: &mut [u8]) -> Reply {
-    let asked = take_words(line);
-    if asked.bad != 0 {
-        let expected = asked.expected;
-        return trouble(line, asked.bad, expected, out);
-    }
-    reply_digits(line, asked, out)
+pub fn reply_rule(line: Line, out: &mut Output) -> Result<Status, Trouble> {
+    let asked = Asked::read(line)?;
+    let mut bytes = output::large_buffer();
+    let digits = line.word(BEFORE).unwrap_or(b"");
+    let n = decode(digits, &mut bytes).map_err(|expected| Trouble {
+        word: BEFORE,
+        expected,
+    })?;
+    Ok(reply_bytes(asked, &bytes[..n], out))
 }
