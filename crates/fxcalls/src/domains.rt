@@ -1,9 +1,19 @@
 // What the arguments of a fixnum operation must be, in words.
 use fxtable::domains::Domain;
-use line::refusal::Argument;
+use fxtable::table::signature_of;
+use line::refusal::{Argument, Counts};
 use line::roles::domain_of;
 use outcomes::refusal::Refusal;
 use std::fmt;
+
+// How many arguments the operation with a code takes.
+pub fn counts(code: u64) -> Counts {
+    let signature = signature_of(code);
+    Counts {
+        least: signature.least,
+        most: signature.most,
+    }
+}
 
 // The rule of a domain, at any width.
 fn rule(domain: Domain) -> &'static str {

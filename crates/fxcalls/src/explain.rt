@@ -1,10 +1,10 @@
 // Why a fixnum call is refused, in words.
-use super::domains::broken_rule;
+use super::domains::{broken_rule, counts};
 use super::request::{Refused, Request};
-use fxtable::table::{CODES, signature_of};
+use fxtable::table::CODES;
 use fxtable::width::{LARGEST_WIDTH, LEAST_WIDTH};
 use line::refusal;
-use line::refusal::{Argument, Counts, Span, WrongCount, argument_at};
+use line::refusal::{Argument, Span, WrongCount, argument_at};
 use names::Operation;
 use outcomes::refusal::Refusal;
 use std::fmt;
@@ -52,13 +52,9 @@ fn code_limit(code: u64) -> Limit {
 
 // `fxnot takes 1 argument, not 2`
 fn wrong_count(request: Request) -> WrongCount {
-    let signature = signature_of(request.code);
     WrongCount {
         operation: Operation::Fixnum(request.code),
-        counts: Counts {
-            least: signature.least,
-            most: signature.most,
-        },
+        counts: counts(request.code),
         count: request.count,
     }
 }
