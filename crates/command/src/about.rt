@@ -1,121 +1,103 @@
 // `help`: what the command and each operation do.
-ghost use Rattle.output.specs.Counts.{IsPrefixLen};
-
-use flcalls::counts::{least, most};
+use super::counts::counts;
 use flcalls::reply_fl;
-use fxcalls::domains::put_domains;
+use fxcalls::domains::Domains;
 use fxcalls::fx::reply_fx;
-use fxtable::table::signature_of;
 use limbcalls::bitwise::reply_bitwise;
-use limbcalls::rules::{arity, put_bitwise_domains};
-use line::number::line_of;
-use line::refusal::put_counts;
-use line::reply::{Reply, done, trouble};
-use line::trouble::Expected;
-use line::{count, is_word, split};
-use manual::{put_command_help, put_meaning, put_sample, put_usage};
-use names::{Table, put_entry, put_name};
-use output::{put, put_natural};
+use limbcalls::rules::BitwiseDomains;
+use line::Line;
+use line::trouble::{Expected, Status, Trouble};
+use manual::{USAGE, command_help, entry_of};
+use names::{Command, Operation};
+use output::buffer::Output;
+use std::fmt;
 
-// The line of an operation, and its meaning.
-fn put_definition(table: Table, number: u64, out: &mut [u8]) -> usize {
-    let at = put_entry(table, number, out, 0);
-    let at = put(b"\n", out, at);
-    let at = put_meaning(table, number, out, at);
-    put(b"\n", out, at)
-}
+// An operation with its arguments, its meaning, and what it takes.
+#[derive(Clone, Copy)]
+struct Help(Operation);
 
-// `ql fx 24 fxand 12 10`, without the ql, in a buffer of its own.
-fn put_example(command: &[u8], table: Table, number: u64, out: &mut [u8]) -> usize {
-    let at = put(command, out, 0);
-    let at = put_name(table, number, out, at);
-    let at = put(b" ", out, at);
-    put_sample(table, number, out, at)
-}
-
-fn put_fixnum_help(code: u64, out: &mut [u8]) -> usize {
-    let signature = signature_of(code);
-    let at = put_definition(Table::Fixnum, code, out);
-    let at = put(b"code ", out, at);
-    let at = put_natural(code, out, at);
-    let at = put(b", ", out, at);
-    let at = put_counts(signature.least, signature.most, out, at);
-    let at = put(b"\n", out, at);
-    put_domains(code, out, at)
-}
-
-fn put_bitwise_help(index: u64, out: &mut [u8]) -> usize {
-    let n = arity(index) as u64;
-    let at = put_definition(Table::Bitwise, index, out);
-    let at = put_counts(n, n, out, at);
-    let at = put(b"\n", out, at);
-    put_bitwise_domains(index, out, at)
-}
-
-fn put_flonum_help(index: u64, out: &mut [u8]) -> usize {
-    let at = put_definition(Table::Flonum, index, out);
-    let at = put_counts(least(index), most(index), out, at);
-    put(b"\n", out, at)
-}
-
-fn put_answer(line: &[u8], out: &mut [u8]) -> usize
-    ensures { IsPrefixLen result out.new }
-{
-    if is_word(line, 1, b"fx") {
-        let reply = reply_fx(line, b", ", out);
-        return put(b"", out, reply.filled);
+impl fmt::Display for Help {
+    fn fmt<W: fmt::Write>(&self, f: &mut fmt::Formatter<W>) -> fmt::Result {
+        let operation = self.0;
+        let meaning = entry_of(operation).meaning;
+        writeln!(f, "{} {}", operation.name(), operation.arguments())?;
+        writeln!(f, "{meaning}")?;
+        let counts = counts(operation);
+        match operation {
+            Operation::Fixnum(code) => writeln!(f, "code {code}, {counts}")?,
+            _ => writeln!(f, "{counts}")?,
+        }
+        match operation {
+            Operation::Fixnum(code) => write!(f, "{}", Domains(code)),
+            Operation::Bitwise(operation) => write!(f, "{}", BitwiseDomains(operation)),
+            Operation::Flonum(_) => Ok(()),
+        }
     }
-    if is_word(line, 1, b"fl") {
-        let reply = reply_fl(line, b", ", out);
-        return put(b"", out, reply.filled);
+}
+
+// An example, without the ql: `fx 24 fxand 12 10`.
+#[derive(Clone, Copy)]
+struct Example(Operation);
+
+impl fmt::Display for Example {
+    fn fmt<W: fmt::Write>(&self, f: &mut fmt::Formatter<W>) -> fmt::Result {
+        let operation = self.0;
+        let command = match operation {
+            Operation::Fixnum(_) => "fx 24",
+            Operation::Bitwise(_) => "bitwise",
+            Operation::Flonum(_) => "fl",
+        };
+        let sample = entry_of(operation).sample;
+        write!(f, "{command} {} {sample}", operation.name())
     }
-    let reply = reply_bitwise(line, out);
-    put(b"", out, reply.filled)
 }
 
 // An example and what the command answers to it.
-fn put_tried(command: &[u8], table: Table, number: u64, out: &mut [u8], at: usize) -> usize {
+fn print_example(operation: Operation, out: &mut Output) -> Result<Status, Trouble> {
+    let example = Example(operation);
     let mut text = [0u8; 128];
-    let n = put_example(command, table, number, &mut text);
-    let n = put(b"", &mut text, n);
-    let at = put(b"  $ ql ", out, at);
-    let at = put(&text[..n], out, at);
-    let at = put(b"\n  ", out, at);
-    let mut line = [0u8; 128];
-    let k = split(&text[..n], &mut line);
-    let mut said = [0u8; 256];
-    let m = put_answer(&line[..k], &mut said);
-    put(&said[..m], out, at)
+    let mut written = Output::new(&mut text);
+    written.print(example);
+    let mut words = [0u8; 128];
+    let line = Line::split(written.text(), &mut words);
+    out.print(format_args!("  $ ql {example}\n  "));
+    match operation {
+        Operation::Fixnum(_) => reply_fx(line, ", ", out),
+        Operation::Bitwise(_) => reply_bitwise(line, out),
+        Operation::Flonum(_) => reply_fl(line, ", ", out),
+    }
 }
 
 // What the command or the operation does that a word names.
-pub fn reply_about(line: &[u8], i: usize, out: &mut [u8]) -> Reply {
-    let command = line_of(line, i, Table::Commands);
-    if command != 0 {
-        return done(put_command_help(command, out));
+pub fn reply_about(line: Line, i: usize, out: &mut Output) -> Result<Status, Trouble> {
+    let word = line.word(i).unwrap_or(b"");
+    if let Some(command) = Command::named(word) {
+        out.put(command_help(command).as_bytes());
+        return Ok(Status::Done);
     }
-    let code = line_of(line, i, Table::Fixnum);
-    if code != 0 {
-        let at = put_fixnum_help(code, out);
-        return done(put_tried(b"fx 24 ", Table::Fixnum, code, out, at));
-    }
-    let index = line_of(line, i, Table::Bitwise);
-    if index != 0 {
-        let at = put_bitwise_help(index, out);
-        return done(put_tried(b"bitwise ", Table::Bitwise, index, out, at));
-    }
-    let index = line_of(line, i, Table::Flonum);
-    if index != 0 {
-        let at = put_flonum_help(index, out);
-        return done(put_tried(b"fl ", Table::Flonum, index, out, at));
-    }
-    trouble(line, i, Expected::Topic, out)
+    let operation = Operation::named(word).ok_or(Trouble {
+        word: i,
+        expected: Expected::Topic,
+    })?;
+    out.print(Help(operation));
+    print_example(operation, out)?;
+    Ok(Status::Done)
 }
 
-pub fn reply_help(line: &[u8], out: &mut [u8]) -> Reply {
-    match count(line) {
-        0 | 1 => done(put_usage(out)),
+pub fn print_usage(out: &mut Output) {
+    out.put(USAGE.as_bytes());
+}
+
+pub fn reply_help(line: Line, out: &mut Output) -> Result<Status, Trouble> {
+    match line.count() {
+        0 | 1 => {
+            print_usage(out);
+            Ok(Status::Done)
+        }
         2 => reply_about(line, 2, out),
-        _ => trouble(line, 3, Expected::End, out),
+        _ => Err(Trouble {
+            word: 3,
+            expected: Expected::End,
+        }),
     }
 }

@@ -2,9 +2,10 @@
 #![tactic(auto)]
 
 mod about;
+mod counts;
 mod ops;
 
-use about::{reply_about, reply_help};
+use about::{print_usage, reply_about, reply_help};
 use flcalls::reply_fl;
 use foldcalls::join::reply_join;
 use fxcalls::fx::reply_fx;
@@ -12,21 +13,16 @@ use fxcalls::list::reply_list;
 use fxcalls::widths::reply_widths;
 use limbcalls::bitwise::reply_bitwise;
 use limbcalls::trim::reply_trim;
-use line::number::line_of;
-use line::reply::{Reply, TROUBLE, done, trouble};
-use line::trouble::Expected;
-use line::{count, is_word, word};
-use manual::put_usage;
-use names::Table;
+use line::Line;
+use line::trouble::{Expected, Status, Trouble};
+use names::Command;
 use ops::reply_ops;
-use output::put;
+use output::buffer::Output;
 use rulecalls::asked::BEFORE;
 use rulecalls::reply::reply_rule;
 
-const VERSION: [u8; 19] = *b"ql (quebralua) 0.2\n";
-
 // What a line asks for: an answer in words, or input to be read.
-#[derive(Clone, Copy)]
+#[derive(Clone, Copy, Debug, PartialEq, Eq)]
 pub enum Task {
     Words,
     Batch,
@@ -34,86 +30,88 @@ pub enum Task {
     RuleFile,
 }
 
-fn asks_help(line: &[u8], i: usize) -> bool {
-    is_word(line, i, b"--help") || is_word(line, i, b"-h")
+fn asks_help(line: Line, i: usize) -> bool {
+    line.is_word(i, b"--help") || line.is_word(i, b"-h")
 }
 
 // `fold`, or `widths fold`.
-fn is_fold(line: &[u8]) -> bool {
-    if is_word(line, 1, b"widths") {
-        return is_word(line, 2, b"fold");
-    }
-    is_word(line, 1, b"fold")
+fn is_fold(line: Line) -> bool {
+    line.is_word(1, b"fold") || line.is_word(1, b"widths") && line.is_word(2, b"fold")
 }
 
 // `rule`, with the name of a file.
-fn is_rule_file(line: &[u8]) -> bool {
-    let word = word(line, BEFORE);
-    let start = word.start;
-    if start < word.end {
-        return line[start] == b'@' && is_word(line, 1, b"rule");
-    }
-    false
+fn is_rule_file(line: Line) -> bool {
+    let form = line.word(BEFORE).unwrap_or(b"");
+    line.is_word(1, b"rule") && form.starts_with(b"@")
 }
 
-pub fn task_of(line: &[u8]) -> Task {
-    let n = count(line);
+pub fn task_of(line: Line) -> Task {
+    let n = line.count();
     if asks_help(line, n) {
-        return Task::Words;
+        Task::Words
+    } else if is_fold(line) {
+        Task::Fold
+    } else if is_rule_file(line) {
+        Task::RuleFile
+    } else if n == 1 && line.is_word(1, b"batch") {
+        Task::Batch
+    } else {
+        Task::Words
     }
-    if is_fold(line) {
-        return Task::Fold;
-    }
-    if is_rule_file(line) {
-        return Task::RuleFile;
-    }
-    if n == 1 && is_word(line, 1, b"batch") {
-        return Task::Batch;
-    }
-    Task::Words
 }
 
-// `fold`, which is 7 among the commands, always reads input and does not come here; `batch` comes with a word too many.
-fn reply_command(line: &[u8], out: &mut [u8]) -> Reply {
-    match line_of(line, 1, Table::Commands) {
-        1 => reply_fx(line, b"\n", out),
-        2 => reply_widths(line, out),
-        3 => reply_bitwise(line, out),
-        4 => reply_trim(line, out),
-        5 => reply_fl(line, b"\n", out),
-        6 => reply_list(line, out),
-        8 => reply_join(line, out),
-        9 => reply_rule(line, out),
-        10 => reply_ops(line, out),
-        11 => reply_help(line, out),
-        12 => trouble(line, 2, Expected::End, out),
-        _ => {
-            if is_word(line, 1, b"--version") {
-                done(put(&VERSION, out, 0))
-            } else {
-                trouble(line, 1, Expected::Command, out)
-            }
+// `fold` always reads input and does not come here; `batch` comes with a word too many.
+fn reply_command(line: Line, out: &mut Output) -> Result<Status, Trouble> {
+    match line.word(1).and_then(Command::named) {
+        Some(Command::Fx) => reply_fx(line, "\n", out),
+        Some(Command::Widths) => reply_widths(line, out),
+        Some(Command::Bitwise) => reply_bitwise(line, out),
+        Some(Command::Trim) => reply_trim(line, out),
+        Some(Command::Fl) => reply_fl(line, "\n", out),
+        Some(Command::List) => reply_list(line, out),
+        Some(Command::Join) => reply_join(line, out),
+        Some(Command::Rule) => reply_rule(line, out),
+        Some(Command::Ops) => reply_ops(line, out),
+        Some(Command::Help) => reply_help(line, out),
+        Some(Command::Batch) => Err(Trouble {
+            word: 2,
+            expected: Expected::End,
+        }),
+        None if line.is_word(1, b"--version") => {
+            out.put(b"ql (quebralua) 0.2\n");
+            Ok(Status::Done)
         }
+        Some(Command::Fold) | None => Err(Trouble {
+            word: 1,
+            expected: Expected::Command,
+        }),
+    }
+}
+
+// A line that ends in a wish for help.
+fn reply_asking(line: Line, out: &mut Output) -> Result<Status, Trouble> {
+    let before = line.count_past(1);
+    if before == 0 {
+        print_usage(out);
+        Ok(Status::Done)
+    } else if line.is_word(1, b"rule") {
+        reply_about(line, 1, out)
+    } else {
+        reply_about(line, before, out)
     }
 }
 
 // What the words of the command line are answered where no input is read.
-pub fn reply_words(line: &[u8], out: &mut [u8]) -> Reply {
-    let n = count(line);
+pub fn reply_words(line: Line, out: &mut Output) -> Status {
+    let n = line.count();
     if n == 0 {
-        return Reply {
-            status: TROUBLE,
-            filled: put_usage(out),
-        };
+        print_usage(out);
+        return Status::Trouble;
     }
-    if !asks_help(line, n) {
-        return reply_command(line, out);
-    }
-    if n == 1 {
-        done(put_usage(out))
-    } else if is_word(line, 1, b"rule") {
-        reply_about(line, 1, out)
+    let reply = if asks_help(line, n) {
+        reply_asking(line, out)
     } else {
-        reply_about(line, n - 1, out)
-    }
+        reply_command(line, out)
+    };
+    line.conclude(reply, out)
 }
