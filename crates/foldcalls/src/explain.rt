@@ -4,7 +4,6 @@ use fold::Refused;
 use fxcalls::domains::broken_rule;
 use fxcalls::explain::{Range, width_limit};
 use line::refusal;
-use line::refusal::argument_at;
 use line::roles::role;
 use outcomes::refusal::Refusal;
 use std::fmt;
@@ -24,7 +23,7 @@ impl fmt::Display for Reason {
             return write!(f, "{}", width_limit(self.width));
         }
         let part = role(ROTATE, place).unwrap_or("the accumulator");
-        let value = argument_at(place, self.settings.args);
+        let value = self.settings.at(place);
         let rule = broken_rule(ROTATE, refusal, place);
         write!(f, "{part} is {value}: it {rule}")
     }

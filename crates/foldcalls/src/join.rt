@@ -8,7 +8,7 @@ use output::buffer::Output;
 
 pub fn reply_join(line: Line, out: &mut Output) -> Result<Status, Trouble> {
     let width = line.width(2)?;
-    let field = line.numbers(2, 6)?;
+    let [start, end, count, accumulator] = line.numbers(2, 6)?;
     let piece = line.number(7)?;
     let length = line.length(8)?;
     if 8 < line.count() {
@@ -17,7 +17,13 @@ pub fn reply_join(line: Line, out: &mut Output) -> Result<Status, Trouble> {
             expected: Expected::End,
         });
     }
-    let settings = Settings::new(Some(width), field, field[3]);
+    let settings = Settings {
+        width: Some(width),
+        start,
+        end,
+        count,
+        accumulator,
+    };
     let opened = match settings.open() {
         Ok(opened) => opened,
         Err(refused) => return Ok(reply_unopened(settings, refused, out)),

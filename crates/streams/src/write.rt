@@ -1,4 +1,6 @@
 // An answer that is written, and what is said where it cannot be.
+ghost use Rattle.std.specs.Prelude.{◌≡◌, ◌⊎◌};
+
 use super::Console;
 use super::cause::Words;
 use line::trouble::Status;
@@ -51,7 +53,9 @@ impl<'a, R: Print, E: Print> Console<'a, R, E> {
     }
 
     // Writes what is said of a word to standard error, and any other answer to standard output. Answers the exit status.
-    pub fn write_reply(&self, status: Status, text: &[u8]) -> Status {
+    pub fn write_reply(&self, status: Status, text: &[u8]) -> Status
+        ensures { (result ≡ status) ⊎ (result ≡ Status.Trouble) }
+    {
         if status == Status::Trouble {
             let _ = self.errors.write_all(text);
             return Status::Trouble;
