@@ -74,13 +74,10 @@ fn evaluate_rule(rule: &[u8], inputs: &[i64]) -> RuleAnswer
     ensures { result ≡ rule_answer default_width rule.now inputs.now }
 {
     match read_rule(rule) {
-        Ok(stored) => rule_answer(evaluate_form(
-            rule,
-            stored.form,
-            DEEPEST,
-            runs_at(stored.width),
-            inputs,
-        )),
+        Ok(stored) => {
+            let width = runs_at(stored.width);
+            rule_answer(evaluate_form(rule, stored.form, DEEPEST, width, inputs))
+        }
         Err(offence) => bad_rule(Refusal::BadRule, offence.offset),
     }
 }

@@ -1,4 +1,6 @@
-// The reader of stored rules: whether bytes are a rule, at which width it runs, or where the earliest offending item begins.
+// The reader of stored rules: whether bytes are a rule, at which width it runs, or where the earliest offending item begins. Its functions are
+// given a position in the bytes, and not the slice from there on, which would be no plainer: each caller keeps positions, as offsets that are
+// told or as bounds of a part, and would have to find them again from the lengths of slices.
 #![tactic(auto)]
 
 ghost use Rattle.std.specs.Prelude.{◌≡◌, ◌≤◌, length, drop, cond, eqb};

@@ -5,13 +5,13 @@ use Rattle.rulevalues.proofs.AnswerLaws.{runs-at-width, rule-evaluated, rule-ref
 use Rattle.ruleevaluator.proofs.evaluate_rule.Goals as goal
 
 pub evaluate_form-requires-clause-width_value : goal.evaluate_form-requires-clause-width_value
-evaluate_form-requires-clause-width_value c = (rw c.runs_at.ensures (runs-at-width c.in-Ok.stored.width c.in-Ok.ensures.stored_width), c.requires)
+evaluate_form-requires-clause-width_value c = (rw c.runs_at-width.ensures (runs-at-width c.in-Ok.stored.width c.in-Ok.ensures.stored_width), c.requires)
 
 pub returns-in-Ok : goal.returns-in-Ok
 returns-in-Ok c =
     let m = c.in-Ok.ensures.rule_read in
     c.rule_answer.ensures
-    ∙ rule-evaluated c.args.rule.now c.args.inputs.now _ _ c.runs_at.result m.0 m.1 c.runs_at.ensures
+    ∙ rule-evaluated c.args.rule.now c.args.inputs.now _ _ c.runs_at-width.result m.0 m.1 c.runs_at-width.ensures
     c.evaluate_form.result c.evaluate_form.ensures
 
 pub returns-in-Err : goal.returns-in-Err
