@@ -23,6 +23,7 @@ pub enum Head {
 }
 
 // Whether a rule may hold the code.
+#[tactic(auto, unfolding(rules::specs::Limits::is_stored_code))]
 pub fn is_stored_code(code: u64) -> bool
     ensures { result ≡ is_stored_code code }
 {

@@ -41,6 +41,7 @@ pub struct Stored {
     pub form: usize,
 }
 
+#[tactic(auto, unfolding(rules::specs::Limits::is_stored_width))]
 pub fn is_stored_width(width: u64) -> bool
     ensures { result ≡ is_stored_width width }
 {

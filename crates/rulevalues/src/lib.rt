@@ -78,6 +78,7 @@ pub fn evaluated_call(answer: Answer, p: usize) -> Result<(i64, usize), Refused>
 }
 
 // The answer for bytes that are no rule, or inputs that are not sixteen.
+#[tactic(auto, unfolding(rules::specs::Answers::bad_rule))]
 pub fn bad_rule(refusal: Refusal, offset: usize) -> RuleAnswer
     ensures { result ≡ bad_rule (code_of refusal) offset }
 {
@@ -90,6 +91,7 @@ pub fn bad_rule(refusal: Refusal, offset: usize) -> RuleAnswer
 }
 
 // The answer of a rule, from its form's.
+#[tactic(auto, unfolding(crate::specs::Evaluated::answered, rules::specs::Answers::value_of))]
 pub fn rule_answer(evaluated: Result<(i64, usize), Refused>) -> RuleAnswer
     ensures { result ≡ answered evaluated }
 {
