@@ -56,15 +56,15 @@ fn evaluate_form(
     if tag == 1 {
         return evaluate_leaf(width, inputs[usize::from(number)], at + 2);
     }
-    let n = usize::from(s[at + 2]);
+    let count = s[at + 2];
     let mut values = [0; 4];
     let mut p = at + 3;
-    for i in 0..n {
+    for i in 0..usize::from(count) {
         let (value, end) = evaluate_form(s, p, depth - 1, width, inputs)?;
         values[i] = value;
         p = end;
     }
-    evaluate_call(width, u64::from(number), values, n as u64, p)
+    evaluate_call(width, u64::from(number), values, u64::from(count), p)
 }
 
 // A rule whose inputs are sixteen. Refusal 10, with its offset, for bytes that are no rule; else the first refusal that evaluation

@@ -61,8 +61,7 @@ bounds-s-at-3 t c =
 pub loop-i-init : goal.loop-i-init
 loop-i-init t c =
     let a = c.args in
-    rw c.from-n.ensures
-    (begins a.width a.inputs.now a.s.now a.at a.depth c.requires.has c.if-tag-eq0.false c.if-tag-eq1.false (pos 0 ∷ pos 0 ∷ pos 0 ∷ pos 0 ∷ []) refl)
+    begins a.width a.inputs.now a.s.now a.at a.depth c.requires.has c.if-tag-eq0.false c.if-tag-eq1.false (pos 0 ∷ pos 0 ∷ pos 0 ∷ pos 0 ∷ []) refl
 
 pub overflow_sub-depth : goal.overflow_sub-depth
 overflow_sub-depth t c =
@@ -74,29 +73,29 @@ pub evaluate_form-requires : goal.evaluate_form-requires
 evaluate_form-requires t c =
     let a = c.args in
     let f = call_facts a.width a.inputs.now a.s.now a.at a.depth c.requires.has c.if-tag-eq0.false c.if-tag-eq1.false in
-    (omega (arith, pos_of_ne-zero f.0, c.decreases), (next-has c.loop-i.invariant c.loop-i-test.true, c.requires.width_value))
+    (omega (arith, pos_of_ne-zero f.0, c.decreases), (next-has c.loop-i.invariant (rw c.from-i-end.ensures at c.loop-i-test.true), c.requires.width_value))
 
 pub returns-in_err-value : goal.returns-in_err-value
-returns-in_err-value t c = rw (err_of _ _ c.from_residual.ensures.1) (next-refused c.loop-i.invariant c.loop-i-test.true _ c.in_err-value.ensures)
+returns-in_err-value t c = rw (err_of _ _ c.from_residual.ensures.1) (next-refused c.loop-i.invariant (rw c.from-i-end.ensures at c.loop-i-test.true) _ c.in_err-value.ensures)
 
 pub bounds-values-i : goal.bounds-values-i
 bounds-values-i t c =
     let a = c.args in
     let f = call_facts a.width a.inputs.now a.s.now a.at a.depth c.requires.has c.if-tag-eq0.false c.if-tag-eq1.false in
-    omega (arith, f.2, c.loop-i-test.true, c.from-n.ensures)
+    omega (arith, f.2, c.loop-i-test.true, c.from-i-end.ensures)
 
 pub loop-i-preserved : goal.loop-i-preserved
 loop-i-preserved t c =
     let a = c.args in
     let f = call_facts a.width a.inputs.now a.s.now a.at a.depth c.requires.has c.if-tag-eq0.false c.if-tag-eq1.false in
     let fits : SFits w64 c.in_ok-value.value = search rules in
-    next-value c.loop-i.invariant c.loop-i-test.true c.in_ok-value.value c.in_ok-value.end c.in_ok-value.ensures
-    (to_z w64 (of_z w64 c.in_ok-value.value)) (to_z-of_z w64 c.in_ok-value.value fits) (omega (arith, f.2, c.loop-i-test.true, c.from-n.ensures))
+    next-value c.loop-i.invariant (rw c.from-i-end.ensures at c.loop-i-test.true) c.in_ok-value.value c.in_ok-value.end c.in_ok-value.ensures
+    (to_z w64 (of_z w64 c.in_ok-value.value)) (to_z-of_z w64 c.in_ok-value.value fits) (omega (arith, f.2, c.loop-i-test.true, c.from-i-end.ensures))
 
 pub evaluate_call-requires : goal.evaluate_call-requires
 evaluate_call-requires t c =
     let l = c.loop-i.invariant in
-    rw c.from-2.ensures (record { checked = ready l c.requires.width_value.0 c.loop-i-test.false; code_value = one-result l })
+    rw (c.from-2.ensures, c.from-3.ensures) (record { checked = ready l c.requires.width_value.0 (rw c.from-i-end.ensures at c.loop-i-test.false); code_value = one-result l })
 
 pub returns : goal.returns
-returns t c = rw (c.evaluate_call.ensures, c.from-2.ensures) (all-evaluated c.loop-i.invariant c.loop-i-test.false)
+returns t c = rw (c.evaluate_call.ensures, c.from-2.ensures, c.from-3.ensures) (all-evaluated c.loop-i.invariant (rw c.from-i-end.ensures at c.loop-i-test.false))

@@ -6,4 +6,4 @@ abbrev pub decreases-evaluate_form : goal.decreases-evaluate_form
 decreases-evaluate_form l = l.depth
 
 abbrev pub invariant-loop-i : goal.invariant-loop-i
-invariant-loop-i l = Looping l.width l.inputs l.s l.at l.depth l.number l.n l.i l.p l.values
+invariant-loop-i l = Looping l.width l.inputs l.s l.at l.depth l.number l.count l.i l.p l.values
