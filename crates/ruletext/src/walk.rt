@@ -1,7 +1,8 @@
 // A walk through the bytes of a form: each call is opened, its arguments follow, and it is closed.
-ghost use Rattle.std.specs.Prelude.{◌≡◌, ◌≤◌, nat_eq};
+ghost use Rattle.std.specs.Prelude.{◌≡◌};
 ghost use Rattle.std.specs.Iterator.{at_most};
 
+use arrayvec::ArrayVec;
 use rulereader::heads::{Head, read_head};
 use rulereader::{DEEPEST, LONGEST};
 
@@ -21,7 +22,7 @@ pub enum Event {
 }
 
 // A call that is open: its code, its argument count and how many arguments are still to come.
-#[derive(Clone, Copy)]
+#[derive(Clone, Copy, Debug, Default)]
 pub struct Call {
     pub code: u64,
     pub count: u64,
@@ -34,48 +35,38 @@ pub struct Walk<'a> {
     rule: &'a [u8],
     pub at: usize,
     pub ended: bool,
-    calls: [Call; MOST_OPEN],
-    depth: usize,
+    calls: ArrayVec<Call, MOST_OPEN>,
     steps_left: usize,
-    ghost few: { depth ≤ 32 },
 }
 
 impl<'a> Walk<'a> {
     // Before the form that begins at an offset.
     pub fn new(rule: &'a [u8], from: usize) -> Walk<'a> {
-        let none = Call {
-            code: 0,
-            count: 0,
-            left: 0,
-        };
         Walk {
             rule,
             at: from,
             ended: false,
-            calls: [none; MOST_OPEN],
-            depth: 0,
+            calls: ArrayVec::new(),
             steps_left: MOST_STEPS,
         }
     }
 
     // The innermost open call.
     pub fn innermost(&self) -> Option<Call> {
-        self.calls[..self.depth].last().copied()
+        self.calls.last().copied()
     }
 
     // Whether no further call can be opened.
-    pub fn is_deepest(&self) -> bool
-        ensures { result ≡ nat_eq self.now.depth 32 }
-    {
-        self.depth == MOST_OPEN
+    pub fn is_deepest(&self) -> bool {
+        self.calls.is_full()
     }
 
     // After a whole form: an argument of the innermost open call, or the last.
     fn pass(&mut self)
         ensures { self.new.steps_left ≡ self.old.steps_left }
     {
-        match self.depth.checked_sub(1) {
-            Some(top) => self.calls[top].left = self.calls[top].left.saturating_sub(1),
+        match self.calls.last_mut() {
+            Some(call) => call.left = call.left.saturating_sub(1),
             None => self.ended = true,
         }
     }
@@ -83,7 +74,7 @@ impl<'a> Walk<'a> {
     fn close(&mut self) -> Event
         ensures { self.new.steps_left ≡ self.old.steps_left }
     {
-        self.depth = self.depth.saturating_sub(1);
+        let _ = self.calls.pop();
         self.pass();
         Event::Closes
     }
@@ -94,7 +85,7 @@ impl<'a> Walk<'a> {
         if self.innermost().is_some_and(|call| call.left == 0) {
             return Some(self.close());
         }
-        if self.ended || self.rule.len() < self.at || self.is_deepest() {
+        if self.ended || self.rule.len() < self.at || self.calls.is_full() {
             return None;
         }
         let (head, end) = read_head(self.rule, self.at).ok()?;
@@ -109,12 +100,8 @@ impl<'a> Walk<'a> {
                 Some(Event::Input(index))
             }
             Head::Call { code, count } => {
-                self.calls[self.depth] = Call {
-                    code,
-                    count,
-                    left: count,
-                };
-                self.depth += 1;
+                let left = count;
+                self.calls.push(Call { code, count, left });
                 Some(Event::Opens { code })
             }
         }
