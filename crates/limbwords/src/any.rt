@@ -8,6 +8,7 @@ use super::logical::{if_limb, logical_limb};
 use super::result::Operation;
 use super::shift::{shift_left_limb, shift_right_limb};
 
+#[tactic(auto, unfolding(crate::specs::Results::Proper))]
 pub fn limb_of(operation: Operation, x: &[u32], y: &[u32], z: &[u32], j: usize) -> u32
     requires x_nonzero { 0 < length x.now }
     requires y_nonzero { 0 < length y.now }

@@ -22,12 +22,6 @@ joined c =
 below : (c : After-from-high) → mag (value c.args.x.now) < 2 ^ 63
 below c = mag-lt (value c.args.x.now) 63 (omega (arith, c.requires.1))
 
-pub overflow_mul-high : goal.overflow_mul-high
-overflow_mul-high c = omega (arith, joined c, below c)
-
-pub overflow_add-high : goal.overflow_add-high
-overflow_add-high c = omega (arith, joined c, below c)
-
 pub from_magnitude-requires : goal.from_magnitude-requires
 from_magnitude-requires c = omega (arith, joined c, below c)
 
