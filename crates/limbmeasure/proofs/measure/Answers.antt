@@ -17,9 +17,9 @@ returns-then-enough-eq1 c = one-limb _ (omega arith)
 arm : (P : ℤ → Type 0) (x y z : ℤ) {o p : Operation} → o ≡ p → P (meaning o x y z) → P (meaning p x y z)
 arm P x y z = subst (λ (o : Operation). P (meaning o x y z))
 
-pub measure_logical-requires : goal.measure_logical-requires
+pub measure_logical-requires-clause-y_bound : goal.measure_logical-requires-clause-y_bound
 unfolding meaning
-measure_logical-requires c = record { x_nonzero = c.requires.x_nonzero; y_nonzero = c.requires.y_nonzero; enough_nonzero = c.requires.proper.1.0; y_bound = arm (λ w. bit_length w < 32 * c.args.enough) _ _ _ c.in-Logical.is c.requires.z_bound }
+measure_logical-requires-clause-y_bound c = arm (λ w. bit_length w < 32 * c.args.enough) _ _ _ c.in-Logical.is c.requires.z_bound
 
 pub returns-in-Logical : goal.returns-in-Logical
 unfolding meaning

@@ -5,19 +5,12 @@ use mathlib.Core.Path.{◌≡◌, ap, ◌∙◌, subst}
 use mathlib.Core.Bool.{not}
 use lib.IntN.{ℤ}
 use Rattle.limbwords.specs.Results.{limb_at}
-use Rattle.limbmeasure.proofs.MeasureLaws.{Enough, all-enough, one_less, counted, counted-one}
+use Rattle.limbmeasure.proofs.MeasureLaws.{Enough, one_less, counted, counted-one}
 use Rattle.limbmeasure.proofs.measure_by.Goals as goal
 
 -- the limb below the last of j + 1
 below : (z : ℤ) (j : ℕ) {low : ℕ} → low ≡ limb_at z (j - 1) → low ≡ limb_at z (j + 1 - 2)
 below z j e = let same : j - 1 ≡ j + 1 - 2 = omega arith in e ∙ ap (limb_at z) same
-
-pub loop-j-init : goal.loop-j-init
-loop-j-init g c =
-    λ z p h.
-    let all : c.args.enough ≡ c.args.enough - 1 + 1 = omega arith in
-    subst (λ n. Enough z c.args.enough n c.limb-high.result) all
-    (all-enough c.requires.enough_nonzero h (p (c.args.enough - 1) _ (omega arith) c.limb-high.ensures))
 
 pub returns-then-not-is_padding : goal.returns-then-not-is_padding
 returns-then-not-is_padding g c =
