@@ -34,29 +34,36 @@ pub fn is_shortest(x: &[u32]) -> bool
 }
 
 // The length of an integer's shortest form, from a number of limbs that is enough downwards: a last limb that only continues the one
-// below it can go. `limb` gives each limb.
+// below it can go. `limb` gives each limb. (A `for` over the indices in reverse was tried: and of 1,024 limbs and one took 1.3 times the time.)
 fn measure_by<F: Fn(usize) -> u32>(limb: F, enough: usize) -> usize
     requires callable { (j : ℕ) → j < enough → F.pre limb j }
     requires enough_nonzero { 0 < enough }
     ensures { (z : ℤ) → ((j v : ℕ) → j < enough → F.post limb j v → v ≡ limb_at z j) → bit_length z < 32 * enough → result ≡ limb_count z }
 {
-    let mut high = limb(enough - 1);
-    for j in (0..enough - 1).rev() {
-        let low = limb(j);
+    let mut n = enough;
+    let mut high = limb(n - 1);
+    while 1 < n {
+        let low = limb(n - 2);
         if !is_padding(low, high) {
-            return j + 2;
+            return n;
         }
         high = low;
+        n -= 1;
     }
-    1
+    n
 }
 
-// The length of the shortest limbs with the value of x.
+// The length of the shortest limbs with the value of x. (Through measure_by, in its form with a `for`, one limb and padding took 1.4 times
+// the time.)
 pub fn shortest_length(x: &[u32]) -> usize
     requires { 0 < length x.now }
     ensures { result ≡ limb_count (value x.now) }
 {
-    measure_by(|j| x[j], x.len())
+    let mut n = x.len();
+    while 1 < n && is_padding(x[n - 2], x[n - 1]) {
+        n -= 1;
+    }
+    n
 }
 
 // The length of a logical operation's result. Limbs that both operands have are read without a test.
