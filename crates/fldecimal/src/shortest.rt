@@ -4,7 +4,7 @@ ghost use Rattle.fldecimal.specs.Spellings.{Spells};
 
 use super::candidate::{is_negative, try_number, try_word};
 use super::digits::{Leading, leading_digits};
-use flonum::ieee::{bits, is_finite, is_nan};
+use flonum::ieee::{bits, is_finite};
 use output::buffer::Output;
 
 // The two numbers next to digits / 10^dropped, the nearer one first.
@@ -39,7 +39,7 @@ fn try_all(x: f64, d: Leading, out: &mut Output) -> bool
 fn try_other(x: f64, out: &mut Output) -> bool
     ensures { result ≡ true → Spells x out.new.filled out.new.bytes.now }
 {
-    if is_nan(x) {
+    if x.is_nan() {
         try_word(x, b"nan", out)
     } else if is_negative(x) {
         try_word(x, b"-inf", out)

@@ -1,25 +1,13 @@
 -- NaNs, finite flonums and signs. Assumes nothing.
-use Rattle.std.proofs.Common.{◌≡◌, ℕ, zero, suc, ◌+◌, ◌-◌, ◌*◌, ◌/◌, ◌%◌, ◌^◌, Bool, true, false, cond, not, ◌&&◌, ◌||◌, T, eqb, ltb, leb, sym, refl, ap, ◌∙◌, subst, mod-lt, arith, lit<}
+use Rattle.std.proofs.Common.{◌≡◌, ℕ, zero, suc, ◌+◌, ◌/◌, ◌%◌, ◌^◌, Bool, true, false, cond, not, T, eqb, leb, sym, refl, ap, ◌∙◌, subst, mod-lt, arith, lit<}
 use native.Mathlib.Nat.{mod-mod}
 use mathlib.Core.Bool.{false≢true}
-use lib.Dec.{eqb_refl}
 use lib.Arith.{lt→nleb}
-use lib.Ieee.{Float, nan, inf, fin, Format, binary64, prec, emax, low, units, up, down, odd, of_fields, of_bits, to_bits, nan_bits, ne, eq, sub, add, neg, sum, level, is_nan, fits, hid, ones, round}
-use lib.Ieee.Bits.{is_true, is_false, of_bits-to_bits, nan_bits_is}
-use lib.Ieee.Fits.{round_is}
+use lib.Ieee.{Float, nan, inf, fin, Format, binary64, prec, low, odd, of_fields, of_bits, to_bits, nan_bits, is_nan, fits, hid, ones}
+use lib.Ieee.Bits.{is_false, of_bits-to_bits, nan_bits_is}
 use lib.Ieee.Scale.{finite}
+use Rattle.std.specs.Float.{float_is_finite}
 use Rattle.flonum.specs.Rounding.{clear_sign}
-
-level-self : (s : Bool) (a : ℕ) → level s a s a ≡ true
-level-self true a = ap (λ (b : Bool). b && (true || eqb a 0)) (is_true (eqb a a) (eqb_refl a))
-level-self false a = ap (λ (b : Bool). b && (true || eqb a 0)) (is_true (eqb a a) (eqb_refl a))
-
-pub differs : (x : Float) → ne x x ≡ is_nan x
-unfolding ne eq is_nan
-differs nan = refl
-differs (inf true) = refl
-differs (inf false) = refl
-differs (fin s m e) = ap not (level-self s (m * up e * down e))
 
 -- ---- the sign
 clear-odd : (d : ℕ) (s : Bool) (q k l : ℕ) → clear_sign (odd d s q k l) ≡ odd d false q k l
@@ -69,31 +57,9 @@ no_nan b x e f = subst (λ (z : Bool). T (not z)) (sym (sym e ∙ f)) tt
 pub its-nan : (b : Bool) (x : Float) → b ≡ is_nan x → b ≡ true → x ≡ nan
 its-nan b x e f = nan_is x (sym e ∙ f)
 
--- ---- x - x is a NaN exactly where x is not finite
-odd_no_nan : (d : ℕ) (s : Bool) (q k l : ℕ) → is_nan (odd d s q k l) ≡ false
-unfolding odd is_nan
-odd_no_nan d s zero k l = refl
-odd_no_nan d s (suc q) k l = refl
-
-units-no-nan : (f : Format) (s : Bool) (q k : ℕ) → is_nan (units f s q k) ≡ false
-unfolding units
-units-no-nan f s q k = go (ltb (q * 2 ^ k) (2 ^ (low f + suc (emax f))))
-  where
-    go : (b : Bool) → is_nan (cond b (odd (suc (prec f)) s q k (low f)) (inf s)) ≡ false
-    go true = odd_no_nan (suc (prec f)) s q k (low f)
-    go false = unfold is_nan in refl
-
-round-no-nan : (f : Format) (s : Bool) (a b : ℕ) → is_nan (round f s a b) ≡ false
-round-no-nan f s a b = ap is_nan (round_is f s a b) ∙ units-no-nan f s _ _
-
-either-no-nan : (b s t : Bool) (a c : ℕ) → is_nan (cond b (round binary64 s a c) (round binary64 (t && b) a c)) ≡ false
-either-no-nan true s t a c = round-no-nan binary64 s a c
-either-no-nan false s t a c = round-no-nan binary64 (t && false) a c
-
-pub minus-itself : (x : Float) → not (is_nan (sub binary64 x x)) ≡ finite x
-unfolding sub add neg sum is_nan
-minus-itself nan = refl
-minus-itself (inf true) = refl
-minus-itself (inf false) = refl
-minus-itself (fin true m e) = ap not (either-no-nan (ltb (m * up e * down e) (m * up e * down e)) false true (m * up e * down e - m * up e * down e) (down e * down e))
-minus-itself (fin false m e) = ap not (either-no-nan (ltb (m * up e * down e) (m * up e * down e)) true false (m * up e * down e - m * up e * down e) (down e * down e))
+-- ---- what the library calls finite
+pub finite-library : (x : Float) → float_is_finite x ≡ finite x
+unfolding float_is_finite
+finite-library nan = refl
+finite-library (inf s) = refl
+finite-library (fin s m e) = refl

@@ -1,8 +1,8 @@
 // What a flonum call answers.
 ghost use Rattle.std.specs.Prelude.{◌≡◌};
-ghost use Rattle.flonum.specs.Calls as calls;
+ghost use Rattle.flonum.specs.Calls.{flat, truth};
 
-#[derive(Drop)]
+#[derive(Clone, Copy)]
 pub enum Answer {
     Refused(u64),
     Fixnum(i64),
@@ -11,7 +11,7 @@ pub enum Answer {
 
 // The same for C, where an enum with data has no shape. The kind is 0 for a refusal, 1 for a fixnum and 2 for a flonum.
 #[repr(C)]
-#[derive(Drop)]
+#[derive(Clone, Copy)]
 pub struct FlatAnswer {
     pub refusal: u64,
     pub kind: u64,
@@ -19,38 +19,37 @@ pub struct FlatAnswer {
     pub flonum: f64,
 }
 
-pub fn flat(a: Answer) -> FlatAnswer
-    ensures { result ≡ calls.flat a }
-{
-    match a {
-        Answer::Refused(k) => FlatAnswer {
-            refusal: k,
+impl From<Answer> for FlatAnswer {
+    ghost from_gives = { λ a f. f ≡ flat a };
+
+    fn from(answer: Answer) -> FlatAnswer {
+        let nothing = FlatAnswer {
+            refusal: 0,
             kind: 0,
             fixnum: 0,
             flonum: 0.0,
-        },
-        Answer::Fixnum(n) => FlatAnswer {
-            refusal: 0,
-            kind: 1,
-            fixnum: n,
-            flonum: 0.0,
-        },
-        Answer::Flonum(x) => FlatAnswer {
-            refusal: 0,
-            kind: 2,
-            fixnum: 0,
-            flonum: x,
-        },
+        };
+        match answer {
+            Answer::Refused(refusal) => FlatAnswer { refusal, ..nothing },
+            Answer::Fixnum(fixnum) => FlatAnswer {
+                kind: 1,
+                fixnum,
+                ..nothing
+            },
+            Answer::Flonum(flonum) => FlatAnswer {
+                kind: 2,
+                flonum,
+                ..nothing
+            },
+        }
     }
 }
 
 // The answer to a question: 1 for yes, 0 for no.
-pub fn truth(b: bool) -> Answer
-    ensures { result ≡ calls.truth b }
-{
-    if b {
-        Answer::Fixnum(1)
-    } else {
-        Answer::Fixnum(0)
+impl From<bool> for Answer {
+    ghost from_gives = { λ b a. a ≡ truth b };
+
+    fn from(yes: bool) -> Answer {
+        Answer::Fixnum(i64::from(yes))
     }
 }

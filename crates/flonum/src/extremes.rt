@@ -5,7 +5,8 @@ ghost use Rattle.flonum.specs.Extremes as meaning;
 ghost use Rattle.flonum.specs.Extremes.{kept, above};
 ghost use Rattle.flonum.specs.Calls as calls;
 
-use super::ieee::{is_nan, one_nan, the_nan};
+use super::ieee::{one_nan, the_nan};
+use outcomes::refusal::Refusal;
 
 #[repr(C)]
 #[derive(Clone, Copy)]
@@ -15,7 +16,7 @@ pub struct Extremes {
 }
 
 #[repr(C)]
-#[derive(Drop)]
+#[derive(Clone, Copy)]
 pub struct ExtremesAnswer {
     pub refusal: u64,
     pub values: Extremes,
@@ -36,21 +37,22 @@ fn larger(old: f64, x: f64) -> f64
 fn extend(e: Extremes, x: f64) -> Extremes
     ensures { result ≡ meaning.extend e x }
 {
-    let mut r = e;
-    if is_nan(x) {
-        r.smallest = the_nan();
-        r.largest = the_nan();
-    } else {
-        r.smallest = smaller(e.smallest, x);
-        r.largest = larger(e.largest, x);
+    if x.is_nan() {
+        return Extremes {
+            smallest: the_nan(),
+            largest: the_nan(),
+        };
     }
-    r
+    Extremes {
+        smallest: smaller(e.smallest, x),
+        largest: larger(e.largest, x),
+    }
 }
 
 fn is_count(count: u64) -> bool
     ensures { result ≡ calls.is_count count }
 {
-    1 <= count && count <= 4
+    matches!(count, 1..=4)
 }
 
 // The arguments from the count on have no influence.
@@ -59,7 +61,7 @@ pub fn flextremes(args: [f64; 4], count: u64) -> ExtremesAnswer
 {
     if !is_count(count) {
         return ExtremesAnswer {
-            refusal: 3,
+            refusal: Refusal::Count.into(),
             values: Extremes {
                 smallest: 0.0,
                 largest: 0.0,
@@ -71,10 +73,8 @@ pub fn flextremes(args: [f64; 4], count: u64) -> ExtremesAnswer
         smallest: first,
         largest: first,
     };
-    let mut i: u64 = 1;
-    while i < count {
-        e = extend(e, args[i as usize]);
-        i += 1;
+    for &x in &args[1..count as usize] {
+        e = extend(e, x);
     }
     ExtremesAnswer {
         refusal: 0,

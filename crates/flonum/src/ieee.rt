@@ -12,30 +12,24 @@ pub fn the_nan() -> f64
     0.0 / 0.0
 }
 
-pub fn is_nan(x: f64) -> bool
-    ensures { result ≡ Ieee.is_nan x }
-{
-    x != x
-}
-
 pub fn is_finite(x: f64) -> bool
     ensures { result ≡ finite x }
 {
-    !is_nan(x - x)
+    x.is_finite()
 }
 
 // x, with the one NaN in place of any.
 pub fn one_nan(x: f64) -> f64
     ensures { result ≡ x }
 {
-    if is_nan(x) { the_nan() } else { x }
+    if x.is_nan() { the_nan() } else { x }
 }
 
 // The bits of a flonum. Those of a NaN are the one NaN's, whatever they are in the machine.
 pub fn bits(x: f64) -> u64
     ensures { result ≡ Ieee.to_bits binary64 x }
 {
-    if is_nan(x) {
+    if x.is_nan() {
         0x7FF8_0000_0000_0000
     } else {
         f64::to_bits(x)
@@ -45,7 +39,7 @@ pub fn bits(x: f64) -> u64
 pub fn without_sign(x: f64) -> f64
     ensures { result ≡ clear_sign x }
 {
-    if is_nan(x) {
+    if x.is_nan() {
         the_nan()
     } else {
         f64::from_bits(f64::to_bits(x) % 0x8000_0000_0000_0000)

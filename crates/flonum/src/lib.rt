@@ -12,9 +12,10 @@ pub mod extremes;
 pub mod ieee;
 pub mod rounding;
 
-use answer::{Answer, truth};
+use answer::Answer;
 use fxtable::width::is_width;
-use ieee::{is_finite, is_nan, without_sign};
+use ieee::{is_finite, without_sign};
+use outcomes::refusal::Refusal;
 use rounding::{Rounding, rounded};
 use words::sign::is_fixnum;
 
@@ -23,10 +24,10 @@ pub fn fixnum_to_flonum(width: u64, n: i64) -> Answer
     ensures { result ≡ calls.fixnum_to_flonum width n }
 {
     if !is_width(width) {
-        return Answer::Refused(1);
+        return Answer::Refused(Refusal::Width.into());
     }
     if !is_fixnum(width, n) {
-        return Answer::Refused(4);
+        return Answer::Refused(Refusal::NotFixnum.into());
     }
     Answer::Flonum(std::num::nearest_i64_to_f64(n))
 }
@@ -70,12 +71,12 @@ pub fn flabs(x: f64) -> Answer
 pub fn flnan(x: f64) -> Answer
     ensures { result ≡ calls.truth (is_nan x) }
 {
-    truth(is_nan(x))
+    Answer::from(x.is_nan())
 }
 
 // flfinite?
 pub fn flfinite(x: f64) -> Answer
     ensures { result ≡ calls.truth (finite x) }
 {
-    truth(is_finite(x))
+    Answer::from(is_finite(x))
 }

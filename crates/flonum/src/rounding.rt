@@ -7,9 +7,9 @@ ghost use Rattle.std.specs.Float.Ieee.Positive.{num, den};
 ghost use Rattle.flonum.specs.Rounding as meaning;
 ghost use Rattle.flonum.specs.Rounding.{Small};
 
-use super::ieee::{is_nan, the_nan};
+use super::ieee::the_nan;
 
-#[derive(Drop)]
+#[derive(Clone, Copy, Debug, PartialEq, Eq)]
 pub enum Rounding {
     Floor,
     Ceiling,
@@ -79,7 +79,7 @@ fn magnitude(way: Rounding, negative: bool, a: f64) -> u64
 pub fn rounded(way: Rounding, x: f64) -> f64
     ensures { result ≡ meaning.rounded way x }
 {
-    if is_nan(x) {
+    if x.is_nan() {
         return the_nan();
     }
     if 0.0 < x {

@@ -7,7 +7,7 @@ ghost use Rattle.flonum.specs.Rounding as meaning;
 ghost use Rattle.flonum.specs.Calls as calls;
 ghost use Rattle.flonum.specs.declared.answer.Answer.TheVariants.{Flonum};
 
-use flonum::answer::{FlatAnswer, flat};
+use flonum::answer::FlatAnswer;
 use flonum::extremes::ExtremesAnswer;
 
 // fixnum->flonum
@@ -15,7 +15,7 @@ use flonum::extremes::ExtremesAnswer;
 pub extern "C" fn ql_fixnum_to_flonum(width: u64, n: i64) -> FlatAnswer
     ensures { result ≡ calls.flat (calls.fixnum_to_flonum width n) }
 {
-    flat(flonum::fixnum_to_flonum(width, n))
+    flonum::fixnum_to_flonum(width, n).into()
 }
 
 // flfloor
@@ -23,7 +23,7 @@ pub extern "C" fn ql_fixnum_to_flonum(width: u64, n: i64) -> FlatAnswer
 pub extern "C" fn ql_flfloor(x: f64) -> FlatAnswer
     ensures { result ≡ calls.flat (Flonum (meaning.flfloor x)) }
 {
-    flat(flonum::flfloor(x))
+    flonum::flfloor(x).into()
 }
 
 // flceiling
@@ -31,7 +31,7 @@ pub extern "C" fn ql_flfloor(x: f64) -> FlatAnswer
 pub extern "C" fn ql_flceiling(x: f64) -> FlatAnswer
     ensures { result ≡ calls.flat (Flonum (meaning.flceiling x)) }
 {
-    flat(flonum::flceiling(x))
+    flonum::flceiling(x).into()
 }
 
 // fltruncate
@@ -39,7 +39,7 @@ pub extern "C" fn ql_flceiling(x: f64) -> FlatAnswer
 pub extern "C" fn ql_fltruncate(x: f64) -> FlatAnswer
     ensures { result ≡ calls.flat (Flonum (meaning.fltruncate x)) }
 {
-    flat(flonum::fltruncate(x))
+    flonum::fltruncate(x).into()
 }
 
 // flround
@@ -47,7 +47,7 @@ pub extern "C" fn ql_fltruncate(x: f64) -> FlatAnswer
 pub extern "C" fn ql_flround(x: f64) -> FlatAnswer
     ensures { result ≡ calls.flat (Flonum (meaning.flround x)) }
 {
-    flat(flonum::flround(x))
+    flonum::flround(x).into()
 }
 
 // flabs
@@ -55,7 +55,7 @@ pub extern "C" fn ql_flround(x: f64) -> FlatAnswer
 pub extern "C" fn ql_flabs(x: f64) -> FlatAnswer
     ensures { result ≡ calls.flat (Flonum (meaning.clear_sign x)) }
 {
-    flat(flonum::flabs(x))
+    flonum::flabs(x).into()
 }
 
 // flnan?
@@ -63,7 +63,7 @@ pub extern "C" fn ql_flabs(x: f64) -> FlatAnswer
 pub extern "C" fn ql_flnan(x: f64) -> FlatAnswer
     ensures { result ≡ calls.flat (calls.truth (is_nan x)) }
 {
-    flat(flonum::flnan(x))
+    flonum::flnan(x).into()
 }
 
 // flfinite?
@@ -71,7 +71,7 @@ pub extern "C" fn ql_flnan(x: f64) -> FlatAnswer
 pub extern "C" fn ql_flfinite(x: f64) -> FlatAnswer
     ensures { result ≡ calls.flat (calls.truth (finite x)) }
 {
-    flat(flonum::flfinite(x))
+    flonum::flfinite(x).into()
 }
 
 // The smallest and the largest of the first `count` of a, b, c, d

@@ -5,7 +5,8 @@ use Rattle.bits.specs.Testbit.{fits}
 use Rattle.words.proofs.WordLaws.{back}
 use Rattle.fxtable.specs.Domains.{is_width}
 use Rattle.fxtable.proofs.CallLaws.{width-bounds}
-use Rattle.flonum.specs.declared.answer.Answer.TheVariants.{Flonum}
+use Rattle.flonum.specs.declared.answer.Answer.TheVariants.{Refused, Flonum}
+use Rattle.outcomes.specs.Refusal.{code_of}
 use Rattle.flonum.proofs.CallLaws.{bad-width, no-fixnum, converted}
 use Rattle.flonum.proofs.fixnum_to_flonum.Goals as goal
 use Rattle.flonum.proofs.fixnum_to_flonum.Goals.{After-is_fixnum, Else-not-is_width}
@@ -18,7 +19,8 @@ tested : (c : After-is_fixnum) → fits c.args.width c.args.n ≡ c.is_fixnum.re
 tested c = ap (fits c.args.width) (sym (back c.ranges.n)) ∙ sym c.is_fixnum.ensures
 
 pub returns-then-not-is_width : goal.returns-then-not-is_width
-returns-then-not-is_width c = bad-width _ _ (sym c.is_width.ensures ∙ c.if-not-is_width.true)
+unfolding code_of
+returns-then-not-is_width c = ap Refused c.into.ensures ∙ bad-width _ _ (sym c.is_width.ensures ∙ c.if-not-is_width.true)
 
 pub is_fixnum-requires : goal.is_fixnum-requires
 is_fixnum-requires c =
@@ -26,7 +28,8 @@ is_fixnum-requires c =
     (omega arith, omega arith)
 
 pub returns-then-not-is_fixnum : goal.returns-then-not-is_fixnum
-returns-then-not-is_fixnum c = no-fixnum _ _ (width-ok c.before.before) (tested c.before ∙ c.if-not-is_fixnum.true)
+unfolding code_of
+returns-then-not-is_fixnum c = let g = goal.at.returns-then-not-is_fixnum c in ap Refused c.into-then-not-is_fixnum.ensures ∙ no-fixnum _ _ (width-ok g.Else-not-is_width) (tested g.After-is_fixnum ∙ c.if-not-is_fixnum.true)
 
 pub returns : goal.returns
 returns c =

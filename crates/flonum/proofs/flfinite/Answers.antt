@@ -4,4 +4,4 @@ use Rattle.flonum.specs.Calls.{truth}
 use Rattle.flonum.proofs.flfinite.Goals as goal
 
 pub returns : goal.returns
-returns c = c.truth.ensures ∙ ap truth c.is_finite.ensures
+returns c = c.from.ensures ∙ ap truth c.is_finite.ensures

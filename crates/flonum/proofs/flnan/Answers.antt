@@ -4,4 +4,4 @@ use Rattle.flonum.specs.Calls.{truth}
 use Rattle.flonum.proofs.flnan.Goals as goal
 
 pub returns : goal.returns
-returns c = c.truth.ensures ∙ ap truth c.is_nan.ensures
+returns c = c.from.ensures ∙ ap truth c.is_nan.ensures.value

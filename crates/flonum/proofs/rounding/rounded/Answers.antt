@@ -10,7 +10,7 @@ use Rattle.flonum.proofs.rounding.rounded.Goals as goal
 pub returns-then-is_nan : goal.returns-then-is_nan
 unfolding rounded
 returns-then-is_nan c =
-    c.the_nan.ensures ∙ ap (rounded c.args.way) (sym (its-nan c.is_nan.result c.args.x c.is_nan.ensures c.if-is_nan.true))
+    c.the_nan.ensures ∙ ap (rounded c.args.way) (sym (its-nan c.is_nan.result c.args.x c.is_nan.ensures.value c.if-is_nan.true))
 
 pub magnitude-requires : goal.magnitude-requires
 unfolding of_bits
@@ -49,4 +49,4 @@ returns-else-a c =
 pub returns-else-x-3 : goal.returns-else-x-3
 unfolding of_bits
 returns-else-x-3 c =
-    zero-rounds c.args.way c.args.x (search rules) (no_nan c.is_nan.result c.args.x c.is_nan.ensures c.if-is_nan.false) (fails c.if-x.false) (fails c.if-x-3.false)
+    zero-rounds c.args.way c.args.x (search rules) (no_nan c.is_nan.result c.args.x c.is_nan.ensures.value c.if-is_nan.false) (fails c.if-x.false) (fails c.if-x-3.false)

@@ -6,4 +6,4 @@ use Rattle.quebralua.proofs.flonums.ql_fixnum_to_flonum.Goals as goal
 
 pub returns : goal.returns
 returns c =
-    c.flat.ensures ∙ ap flat (c.fixnum_to_flonum.ensures ∙ ap (fixnum_to_flonum c.args.width) (back c.ranges.n))
+    c.into.ensures ∙ ap flat (c.fixnum_to_flonum.ensures ∙ ap (fixnum_to_flonum c.args.width) (back c.ranges.n))

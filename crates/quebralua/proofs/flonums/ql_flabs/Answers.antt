@@ -4,4 +4,4 @@ use Rattle.flonum.specs.Calls.{flat}
 use Rattle.quebralua.proofs.flonums.ql_flabs.Goals as goal
 
 pub returns : goal.returns
-returns c = c.flat.ensures ∙ ap flat c.flabs.ensures
+returns c = c.into.ensures ∙ ap flat c.flabs.ensures

@@ -4,4 +4,4 @@ use Rattle.flonum.specs.Calls.{flat}
 use Rattle.quebralua.proofs.flonums.ql_flround.Goals as goal
 
 pub returns : goal.returns
-returns c = c.flat.ensures ∙ ap flat c.flround.ensures
+returns c = c.into.ensures ∙ ap flat c.flround.ensures

@@ -1,10 +1,10 @@
--- `flonum::answer::flat` meets its contract. Assumes nothing.
+-- `flonum::answer::FlatAnswerFromAnswer::from` meets its contract. Assumes nothing.
 use Rattle.std.proofs.Common.{ℤ, sym, ap, ◌∙◌, rules}
 use lib.Ieee.{of_bits}
 use Rattle.words.proofs.WordLaws.{back}
 use Rattle.flonum.specs.declared.answer.Answer.TheVariants.{Fixnum}
 use Rattle.flonum.specs.Calls.{flat}
-use Rattle.flonum.proofs.answer.flat.Goals as goal
+use Rattle.flonum.proofs.answer.FlatAnswerFromAnswer.from.Goals as goal
 
 pub returns-in-Refused : goal.returns-in-Refused
 unfolding flat of_bits
