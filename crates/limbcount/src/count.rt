@@ -23,18 +23,21 @@ fn length_of(w: u32) -> u64
     32 - u64::from(w.leading_zeros())
 }
 
-// Two limbs a turn, and at the end the last one where it is alone: a limb a turn takes twice the time from 32 limbs on.
+// Two limbs a turn, and at the end the last one where it is alone. (A limb a turn takes twice the time from 32 limbs on. A `for` over
+// 0..x.len() / 2 was tried: at one limb it took 1.5 times plain Rust's time, where 1.2 is the aim, and this takes 1.1.)
 pub fn bit_count(x: &[u32]) -> i64
     requires { (0 < length x.now) × (length x.now ≤ 1024) }
     ensures { result ≡ bit_count (value x.now) }
 {
     let sign = padding(x);
     let mut n = 0u64;
-    for k in 0..x.len() / 2 {
-        n += ones_of(x[2 * k] ^ sign, x[2 * k + 1] ^ sign);
+    let mut j = 0;
+    while j + 1 < x.len() {
+        n += ones_of(x[j] ^ sign, x[j + 1] ^ sign);
+        j += 2;
     }
-    if x.len() % 2 == 1 {
-        n += ones_of(x[x.len() - 1] ^ sign, 0);
+    if j < x.len() {
+        n += ones_of(x[j] ^ sign, 0);
     }
     from_magnitude(sign != 0, n)
 }
