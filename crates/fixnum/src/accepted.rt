@@ -7,7 +7,7 @@ ghost use Rattle.fxtable.specs.Operations.{has_two};
 ghost use Rattle.fxtable.specs.Table.{row_of};
 
 use fxarith::arithmetic::{add, multiply, subtract};
-use fxarith::compare::{equal, extreme, ordered, predicate};
+use fxarith::compare::{compare, extreme, predicate};
 use fxarith::division::divide;
 use fxbits::bit::bit;
 use fxbits::counts::counts;
@@ -27,10 +27,8 @@ fn operate_on_numbers(width: u64, code: u64, args: [i64; 4], count: u64) -> Answ
     if code <= 10 {
         if 5 < code {
             predicate(width, code, args, count)
-        } else if code == 1 {
-            equal(width, args, count)
         } else {
-            ordered(width, code, args, count)
+            compare(width, code, args, count)
         }
     } else if 15 < code {
         divide(width, code, args, count)

@@ -1,2 +1,1 @@
-pub mod Relations
 pub mod Held

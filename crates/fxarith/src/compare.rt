@@ -1,53 +1,28 @@
 // Codes 1 to 12: comparisons of arguments with the next, predicates of one argument, the largest and the smallest.
-ghost use Rattle.std.specs.Prelude.{◌≡◌, ◌≤◌, []};
+ghost use Rattle.std.specs.Prelude.{◌≡◌, ◌≤◌};
 ghost use Rattle.fxtable.specs.Calls.{answer, counted, outcome};
 ghost use Rattle.fxtable.specs.Inner.{Accepted};
-ghost use Rattle.fxtable.specs.Operations as operations;
-ghost use Rattle.fxtable.specs.Table.{row, row_of};
-ghost use Rattle.fxarith.specs.Relations.{holds};
 
-use super::chain::{Relation, chain};
-use fxstages::fold::{Fold, fold_all};
+use super::chain::chain;
+use fxstages::fold::fold_all;
 use fxtable::answer::{Answer, done, question};
 use words::sign::absolute;
 
-fn relation(code: u64) -> Relation
-    requires { (1 ≤ code) × (code ≤ 5) }
-    ensures { row_of code ≡ row 2 4 [] 0 (operations.question (operations.chain (holds result))) }
-{
-    match code {
-        1 => Relation::Equal,
-        2 => Relation::Greater,
-        3 => Relation::Less,
-        4 => Relation::GreaterOrEqual,
-        _ => Relation::LessOrEqual,
-    }
-}
-
 // fx=? fx>? fx<? fx>=? fx<=?
+#[tactic(auto, using(crate::proofs::CountLaws::four_at_most))]
+#[inline(always)]
 pub fn compare(width: u64, code: u64, args: [i64; 4], count: u64) -> Answer
     requires accepted { Accepted width code args count }
     requires le_code { (1 ≤ code) × (code ≤ 5) }
     ensures { result ≡ answer (outcome width code (counted args count)) }
 {
-    question(chain(relation(code), args, count))
-}
-
-// fx=?, for a caller that has told it from the others.
-pub fn equal(width: u64, args: [i64; 4], count: u64) -> Answer
-    requires { Accepted width 1 args count }
-    ensures { result ≡ answer (outcome width 1 (counted args count)) }
-{
-    question(chain(Relation::Equal, args, count))
-}
-
-// fx>? fx<? fx>=? fx<=?, for the same caller.
-pub fn ordered(width: u64, code: u64, args: [i64; 4], count: u64) -> Answer
-    requires accepted { Accepted width code args count }
-    requires le_code { (2 ≤ code) × (code ≤ 5) }
-    ensures { result ≡ answer (outcome width code (counted args count)) }
-{
-    question(chain(relation(code), args, count))
+    match code {
+        1 => question(chain(|x, y| x == y, args, count)),
+        2 => question(chain(|x, y| x > y, args, count)),
+        3 => question(chain(|x, y| x < y, args, count)),
+        4 => question(chain(|x, y| x >= y, args, count)),
+        _ => question(chain(|x, y| x <= y, args, count)),
+    }
 }
 
 // fxzero? fxpositive? fxnegative? fxodd? fxeven?
@@ -76,8 +51,8 @@ pub fn extreme(width: u64, code: u64, args: [i64; 4], count: u64) -> Answer
 {
     let x = args[0];
     if code == 11 {
-        done(fold_all(Fold::Largest, x, args, count), 0)
+        done(fold_all(|x, y| x.max(y), x, args, count), 0)
     } else {
-        done(fold_all(Fold::Smallest, x, args, count), 0)
+        done(fold_all(|x, y| x.min(y), x, args, count), 0)
     }
 }

@@ -3,9 +3,9 @@ ghost use Rattle.std.specs.Prelude.{◌≡◌, ◌≤◌};
 ghost use Rattle.fxtable.specs.Calls.{answer, counted, outcome};
 ghost use Rattle.fxtable.specs.Inner.{Accepted};
 
-use fxstages::fold::{Fold, fold_all};
+use fxstages::fold::fold_all;
 use fxtable::answer::{Answer, done};
-use words::logical::{and, ior};
+use words::logical::{and, ior, xor};
 
 // fxnot
 pub fn not(width: u64, args: [i64; 4], count: u64) -> Answer
@@ -34,9 +34,9 @@ pub fn combined(width: u64, code: u64, args: [i64; 4], count: u64) -> Answer
     ensures { result ≡ answer (outcome width code (counted args count)) }
 {
     match code {
-        26 => done(fold_all(Fold::And, !0, args, count), 0),
-        27 => done(fold_all(Fold::Ior, 0, args, count), 0),
-        _ => done(fold_all(Fold::Xor, 0, args, count), 0),
+        26 => done(fold_all(and, !0, args, count), 0),
+        27 => done(fold_all(ior, 0, args, count), 0),
+        _ => done(fold_all(xor, 0, args, count), 0),
     }
 }
 

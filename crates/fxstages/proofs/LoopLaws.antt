@@ -15,16 +15,14 @@ use Rattle.fxtable.specs.Operations.{every, fold_from}
 use Rattle.bits.specs.Logical.{bitwise, bitwise_from}
 use Rattle.outcomes.specs.Outcome.{done}
 use Rattle.fxtable.specs.declared.answer.Answer.{Answer}
-use Rattle.fxstages.specs.declared.fold.Fold.{Fold}
 use Rattle.fxtable.specs.Calls.{answer, counted, outcome}
-use Rattle.fxstages.specs.Inner.{step}
 use Rattle.fxtable.specs.Table.{row, row_of}
 use Rattle.fxtable.proofs.CallLaws.{done-word}
 use Rattle.fxtable.proofs.MeaningLaws.{every-outcome}
 use lib.Signed.{mag}
 
 module _ (xs : List ℤ) (n : ℕ) (four : length xs ≡ 4) (few : n ≤ 4) where
-  counted-length : length (counted xs n) ≡ n
+  pub counted-length : length (counted xs n) ≡ n
   unfolding counted
   counted-length = length-take-le n xs (omega arith)
 
@@ -60,7 +58,7 @@ from-fold op x [] = refl
 from-fold op x (y ∷ ys) = from-fold op (bitwise op x y) ys
 
 -- the answer of a code whose result is a fold, from the word that holds it
-pub fold-answer : (g : List ℤ → ℤ) (fold : Fold) (first : ℤ) (w code : ℕ) (ys : List ℤ) {least most : ℕ} {r : Answer} {y : ℤ}
-    → row_of code ≡ row least most [] 0 (every g) → g ys ≡ fold_from (step fold) first ys
-    → r ≡ answer (done (to_z w64 (of_z w64 y), pos 0)) → mag y < 2 ^ 63 → y ≡ fold_from (step fold) first ys → r ≡ answer (outcome w code ys)
-fold-answer g fold first w code ys e q d h p = done-word d h (p ∙ sym q) ∙ every-outcome g w code ys e
+pub fold-answer : (g : List ℤ → ℤ) (step : ℤ → ℤ → ℤ) (first : ℤ) (w code : ℕ) (ys : List ℤ) {least most : ℕ} {r : Answer} {y : ℤ}
+    → row_of code ≡ row least most [] 0 (every g) → g ys ≡ fold_from step first ys
+    → r ≡ answer (done (to_z w64 (of_z w64 y), pos 0)) → mag y < 2 ^ 63 → y ≡ fold_from step first ys → r ≡ answer (outcome w code ys)
+fold-answer g step first w code ys e q d h p = done-word d h (p ∙ sym q) ∙ every-outcome g w code ys e

@@ -8,9 +8,6 @@ use Rattle.fixnum.proofs.accepted.operate_on_numbers.Goals.{In_default}
 last : (c : In_default) → c.args.code ≡ 15
 last c = omega arith
 
-pub equal-requires : goal.equal-requires
-equal-requires c = accepted-at c.if-code-eq1.true c.requires.accepted
-
 pub add-requires : goal.add-requires
 add-requires c = accepted-at c.in-13.is c.requires.accepted
 
@@ -19,9 +16,6 @@ multiply-requires c = accepted-at c.in-14.is c.requires.accepted
 
 pub subtract-requires : goal.subtract-requires
 subtract-requires c = accepted-at (last c) c.requires.accepted
-
-pub returns-then-code-eq1 : goal.returns-then-code-eq1
-returns-then-code-eq1 c = c.equal.ensures ∙ outcome-at _ _ c.if-code-eq1.true
 
 pub returns-in-13 : goal.returns-in-13
 returns-in-13 c = c.add.ensures ∙ outcome-at _ _ c.in-13.is

@@ -1,42 +1,39 @@
--- `fxarith::chain::chain` meets its contract. The invariant: the answer is what the turns before found, and the answer for the arguments
--- from i on. Assumes nothing.
-use Prim.Native.Nat.{◌+◌}
-use native.Mathlib.Omega.{arith}
-use mathlib.Core.Path.{◌≡◌, refl, sym, ap, ◌∙◌}
-use mathlib.Core.Bool.{Bool, ◌&&◌, and_assoc}
-use lib.ListN.{drop}
-use Rattle.words.proofs.WordLaws.{back-word}
+-- `fxarith::chain::chain` meets its contract. Assumes nothing.
+use Rattle.std.proofs.Common.{◌≡◌, refl, sym, ap, ◌∙◌, arith, Bool, ◌&&◌, ◌-◌, ◌+◌, drop, w64, FitsSigned}
+use mathlib.Core.Bool.{and_assoc}
+use Rattle.words.proofs.WordLaws.{back}
 use Rattle.bits.proofs.Booleans.{and-true}
 use Rattle.fxtable.specs.Domains.{arg}
 use Rattle.fxtable.specs.Operations.{chain}
-use Rattle.fxarith.specs.Relations.{holds}
 use Rattle.fxtable.specs.Calls.{counted}
 use Rattle.fxarith.proofs.ChainLaws.{chain-step, chain-last}
 use Rattle.fxarith.proofs.chain.chain.Goals as goal
 
 pub loop-i-init : goal.loop-i-init
-loop-i-init c = (omega arith, refl)
+loop-i-init g c relation computes = refl
 
 pub loop-i-preserved : goal.loop-i-preserved
 unfolding arg
-loop-i-preserved c =
+loop-i-preserved g c relation computes =
+    let xs = c.args.args in
+    let n = c.args.count in
     let l = c.loop-i in
-    let x = back-word (arg c.args.args l.i) (omega arith) in
-    let y = back-word (arg c.args.args (l.i + 1)) (omega arith) in
-    let test : holds c.args.relation (arg c.args.args l.i) (arg c.args.args (l.i + 1)) ≡ c.holds-all.result =
-    sym (rw (x, y) at c.holds-all.ensures) in (
-      omega arith,
-      l.invariant.1
-          ∙ ap (λ (t : Bool). l.all && t)
-          (chain-step c.args.args c.args.count c.well_formed.1.0.1.0.1 c.requires.1 (holds c.args.relation) l.i c.loop-i-test.true
-          ∙ ap (λ (t : Bool). t && chain (holds c.args.relation) (drop (l.i + 1) (counted c.args.args c.args.count))) test)
-          ∙ sym (and_assoc l.all c.holds-all.result (chain (holds c.args.relation) (drop (l.i + 1) (counted c.args.args c.args.count)))),
-    )
+    let next : l.i - 1 + 1 ≡ l.i = omega arith in
+    let x : FitsSigned w64 (arg xs (l.i - 1)) = record { sfits = omega arith } in
+    let y : FitsSigned w64 (arg xs l.i) = record { sfits = omega arith } in
+    let test : c.holds-all.result ≡ relation (arg xs (l.i - 1)) (arg xs l.i) = computes _ _ _ x y (rw (back x, back y) at c.holds-all.ensures) in
+    let step : chain relation (drop (l.i - 1) (counted xs n)) ≡ relation (arg xs (l.i - 1)) (arg xs l.i) && chain relation (drop l.i (counted xs n)) =
+    rw next at (chain-step xs n c.well_formed.1.0.1.0.1 c.requires.few relation (l.i - 1) (omega arith)) in
+    let same : l.i + 1 - 1 ≡ l.i = omega arith in
+    rw same
+    (l.invariant relation computes
+    ∙ ap (λ (t : Bool). l.all && t) (step ∙ ap (λ (t : Bool). t && chain relation (drop l.i (counted xs n))) (sym test))
+    ∙ sym (and_assoc l.all c.holds-all.result (chain relation (drop l.i (counted xs n)))))
 
 pub returns : goal.returns
-returns c =
+returns g c relation computes =
     let l = c.loop-i in
-    sym (l.invariant.1
+    sym (l.invariant relation computes
     ∙ ap (λ (t : Bool). l.all && t)
-    (chain-last c.args.args c.args.count c.well_formed.1.0.1.0.1 c.requires.1 (holds c.args.relation) l.i l.invariant.0 c.loop-i-test.false)
+    (chain-last c.args.args c.args.count c.well_formed.1.0.1.0.1 c.requires.few relation (l.i - 1) (omega arith))
     ∙ and-true l.all)

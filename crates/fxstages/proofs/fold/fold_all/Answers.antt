@@ -1,53 +1,50 @@
--- `fxstages::fold::fold_all` meets its contract. The invariant: the answer is the fold of the arguments from i on, from the present value.
--- Assumes nothing.
-use Prim.Native.Nat.{◌+◌}
-use native.Mathlib.Omega.{arith}
-use mathlib.Core.Path.{◌≡◌, refl, sym, ap, ◌∙◌}
-use lib.IntN.{ℤ}
-use lib.ListN.{drop}
-use mir.Syntax.{w64}
-use mir.Val.{to_z, of_z}
+-- `fxstages::fold::fold_all` meets its contract. Assumes nothing.
+use Rattle.std.proofs.Common.{◌≡◌, refl, sym, ap, subst, ◌∙◌, arith, ℤ, ◌+◌, ◌<◌, drop, w64, FitsSigned, to_z}
+use Rattle.std.proofs.Math.Facts.{sfits_to_z}
 use Rattle.words.proofs.WordLaws.{back, back-word}
 use Rattle.fxtable.specs.Domains.{arg}
 use Rattle.fxtable.specs.Operations.{fold_from}
-use Rattle.fxstages.specs.Inner.{step}
 use Rattle.fxtable.specs.Calls.{counted}
-use Rattle.fxstages.proofs.LoopLaws.{fold_step, fold-two, rest-none}
+use Rattle.fxtable.proofs.CallLaws.{arg-counted}
+use Rattle.fxstages.proofs.LoopLaws.{counted-length, fold_step, fold-two, rest-none}
 use Rattle.fxstages.proofs.fold.fold_all.Goals as goal
 
 pub returns-then-count-eq2 : goal.returns-then-count-eq2
 unfolding arg
-returns-then-count-eq2 c =
-    let x = back-word (arg c.args.args 0) (omega arith) in
-    let y = back-word (arg c.args.args 1) (omega arith) in
-    let one : c.combine-value.result ≡ step c.args.fold c.args.first (arg c.args.args 0) = rw (back c.ranges.first, x) at c.combine-value.ensures in
-    let two : c.combine.result ≡ step c.args.fold c.combine-value.result (arg c.args.args 1) =
-    rw (back-word c.combine-value.result c.combine-value.type_inv, y) at c.combine.ensures in
-    back-word c.combine.result c.combine.type_inv
+returns-then-count-eq2 g c step computes =
+    let x : FitsSigned w64 (arg c.args.args 0) = record { sfits = omega arith } in
+    let y : FitsSigned w64 (arg c.args.args 1) = record { sfits = omega arith } in
+    let value : FitsSigned w64 c.f.result = record { sfits = c.f.type_inv } in
+    let one = computes _ _ _ c.ranges.first x (rw (back c.ranges.first, back x) at c.f.ensures) in
+    let two = computes _ _ _ value y (rw (back value, back y) at c.f-then-count-eq2.ensures) in
+    back-word c.f-then-count-eq2.result c.f-then-count-eq2.type_inv
     ∙ two
-    ∙ ap (λ (z : ℤ). step c.args.fold z (arg c.args.args 1)) one
-    ∙ sym (fold-two c.args.args c.args.count c.well_formed.1.1.0.1.0.1 c.requires (step c.args.fold) c.args.first c.if-count-eq2.true)
+    ∙ ap (λ (z : ℤ). step z (arg c.args.args 1)) one
+    ∙ sym (fold-two c.args.args c.args.count c.well_formed.1.1.0.1.0.1 c.requires.few step c.args.first c.if-count-eq2.true)
 
-pub loop-i-init : goal.loop-i-init
-loop-i-init c = (omega arith, refl)
+pub loop-x-init : goal.loop-x-init
+loop-x-init g c step computes = refl
 
-pub loop-i-preserved : goal.loop-i-preserved
-unfolding arg
-loop-i-preserved c =
-    let l = c.loop-i in
-    let next : step c.args.fold (to_z w64 l.value-bits) (arg c.args.args l.i) ≡ to_z w64 (of_z w64 c.combine-value-in-loop-i.result) =
-    sym (back-word c.combine-value-in-loop-i.result c.combine-value-in-loop-i.type_inv
-    ∙ (rw (back-word (arg c.args.args l.i) (omega arith)) at c.combine-value-in-loop-i.ensures)) in (
-      omega arith,
-      l.invariant.1
-          ∙ fold_step c.args.args c.args.count c.well_formed.1.1.0.1.0.1 c.requires (step c.args.fold) (to_z w64 l.value-bits) l.i c.loop-i-test.true
-          ∙ ap (λ (v : ℤ). fold_from (step c.args.fold) v (drop (l.i + 1) (counted c.args.args c.args.count))) next,
-    )
+pub loop-x-preserved : goal.loop-x-preserved
+unfolding counted arg
+loop-x-preserved g c step computes =
+    let xs = c.args.args in
+    let n = c.args.count in
+    let l = c.loop-x in
+    let i : l.x-index < n = omega (arith, counted-length xs n c.well_formed.1.1.0.1.0.1 c.requires.few) in
+    let here : arg (counted xs n) l.x-index ≡ arg xs l.x-index = arg-counted xs n l.x-index i in
+    let item : FitsSigned w64 (arg (counted xs n) l.x-index) = record { sfits = omega arith } in
+    let x : FitsSigned w64 (arg xs l.x-index) = subst (FitsSigned w64) here item in
+    let value : FitsSigned w64 (to_z w64 l.value-bits) = sfits_to_z l.auto.value in
+    let turn = computes _ _ _ value x (rw (here, back x) at c.f-value.ensures) in
+    l.invariant step computes
+    ∙ fold_step xs n c.well_formed.1.1.0.1.0.1 c.requires.few step (to_z w64 l.value-bits) l.x-index i
+    ∙ ap (λ (v : ℤ). fold_from step v (drop (l.x-index + 1) (counted xs n))) (sym (back-word c.f-value.result c.f-value.type_inv ∙ turn))
 
 pub returns : goal.returns
-unfolding fold_from
-returns c =
-    let l = c.loop-i in
-    sym (ap (λ (v : ℤ). fold_from (step c.args.fold) v (counted c.args.args c.args.count)) (sym (back c.ranges.first))
-    ∙ l.invariant.1
-    ∙ ap (fold_from (step c.args.fold) (to_z w64 l.value-bits)) (rest-none c.args.args c.args.count l.i c.loop-i-test.false))
+unfolding counted fold_from
+returns g c step computes =
+    let l = c.loop-x in
+    sym (ap (λ (v : ℤ). fold_from step v (counted c.args.args c.args.count)) (sym (back c.ranges.first))
+    ∙ l.invariant step computes
+    ∙ ap (fold_from step (to_z w64 l.value-bits)) (rest-none c.args.args c.args.count l.x-index (omega (arith, counted-length c.args.args c.args.count c.well_formed.1.1.0.1.0.1 c.requires.few))))
