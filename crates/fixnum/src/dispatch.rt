@@ -15,6 +15,7 @@ use fxbits::shifts::shift;
 use fxtable::answer::Answer;
 
 // By halves: the compiler takes a call that stands behind many tests for a rare one, and does not build it in.
+#[inline(always)]
 pub fn operate(width: u64, code: u64, args: [i64; 4], count: u64) -> Answer
     requires accepted { Accepted width code args count }
     requires le_code { (1 ≤ code) × (code ≤ 41) }

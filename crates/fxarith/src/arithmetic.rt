@@ -17,6 +17,7 @@ use widewords::wide::product;
 use words::sign::{absolute, is_negative};
 
 // A sum or a difference is a fixnum exactly where nothing is carried.
+#[inline(always)]
 fn without_carry(overflow: Refusal, width: u64, s: Double) -> Answer
     requires { is_width width ≡ true }
     ensures { (x : ℤ) → Held width s x → result ≡ answer (calls.checked (code_of overflow) width (x, pos 0)) }
@@ -28,6 +29,7 @@ fn without_carry(overflow: Refusal, width: u64, s: Double) -> Answer
 }
 
 // fx+
+#[inline(always)]
 pub fn add(width: u64, args: [i64; 4], count: u64) -> Answer
     requires { Accepted width 13 args count }
     ensures { result ≡ answer (outcome width 13 (counted args count)) }
@@ -38,6 +40,7 @@ pub fn add(width: u64, args: [i64; 4], count: u64) -> Answer
 }
 
 // fx*
+#[inline(always)]
 pub fn multiply(width: u64, args: [i64; 4], count: u64) -> Answer
     requires { Accepted width 14 args count }
     ensures { result ≡ answer (outcome width 14 (counted args count)) }
@@ -48,6 +51,7 @@ pub fn multiply(width: u64, args: [i64; 4], count: u64) -> Answer
 }
 
 // fx-, of one argument or two
+#[inline(always)]
 pub fn subtract(width: u64, args: [i64; 4], count: u64) -> Answer
     requires { Accepted width 15 args count }
     ensures { result ≡ answer (outcome width 15 (counted args count)) }
@@ -60,6 +64,7 @@ pub fn subtract(width: u64, args: [i64; 4], count: u64) -> Answer
     without_carry(Refusal::Domain, width, difference(x, y, 0))
 }
 
+#[inline(always)]
 pub fn arithmetic(width: u64, code: u64, args: [i64; 4], count: u64) -> Answer
     requires accepted { Accepted width code args count }
     requires le_code { (13 ≤ code) × (code ≤ 15) }

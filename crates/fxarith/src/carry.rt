@@ -20,6 +20,7 @@ fn parts(width: u64, s: Double) -> Answer
 }
 
 // fx+/carry fx-/carry fx*/carry
+#[inline(always)]
 pub fn carry(width: u64, code: u64, args: [i64; 4], count: u64) -> Answer
     requires accepted { Accepted width code args count }
     requires le_code { (22 ≤ code) × (code ≤ 24) }

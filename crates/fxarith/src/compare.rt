@@ -26,6 +26,7 @@ pub fn compare(width: u64, code: u64, args: [i64; 4], count: u64) -> Answer
 }
 
 // fxzero? fxpositive? fxnegative? fxodd? fxeven?
+#[inline(always)]
 pub fn predicate(width: u64, code: u64, args: [i64; 4], count: u64) -> Answer
     requires accepted { Accepted width code args count }
     requires le_code { (6 ≤ code) × (code ≤ 10) }
@@ -44,6 +45,7 @@ pub fn predicate(width: u64, code: u64, args: [i64; 4], count: u64) -> Answer
 
 // fxmax fxmin
 #[tactic(auto, using(crate::proofs::CountLaws::four_at_most))]
+#[inline(always)]
 pub fn extreme(width: u64, code: u64, args: [i64; 4], count: u64) -> Answer
     requires accepted { Accepted width code args count }
     requires le_code { (11 ≤ code) × (code ≤ 12) }

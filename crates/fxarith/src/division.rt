@@ -9,6 +9,7 @@ use outcomes::refusal::Refusal;
 use widewords::division;
 use words::sign::from_absolute;
 
+#[inline(always)]
 pub fn divide(width: u64, code: u64, args: [i64; 4], count: u64) -> Answer
     requires accepted { Accepted width code args count }
     requires le_code { (16 ≤ code) × (code ≤ 21) }

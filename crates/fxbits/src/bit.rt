@@ -8,6 +8,7 @@ use words::field;
 use words::sign::absolute;
 
 // A bit copied to position width - 1 is the sign.
+#[inline(always)]
 pub fn bit(width: u64, code: u64, args: [i64; 4], count: u64) -> Answer
     requires accepted { Accepted width code args count }
     requires le_code { (33 ≤ code) × (code ≤ 34) }

@@ -6,6 +6,7 @@ ghost use Rattle.fxtable.specs.Inner.{Accepted};
 use fxtable::answer::{Answer, done};
 use words::count::{bit_count, first_bit_set, length};
 
+#[inline(always)]
 pub fn counts(width: u64, code: u64, args: [i64; 4], count: u64) -> Answer
     requires accepted { Accepted width code args count }
     requires le_code { (30 ≤ code) × (code ≤ 32) }

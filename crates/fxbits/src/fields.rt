@@ -21,6 +21,7 @@ pub fn taken(width: u64, args: [i64; 4], count: u64) -> Answer
 }
 
 // fxcopy-bit-field
+#[inline(always)]
 pub fn copied(width: u64, args: [i64; 4], count: u64) -> Answer
     requires { Accepted width 36 args count }
     ensures { result ≡ answer (outcome width 36 (counted args count)) }
@@ -33,6 +34,7 @@ pub fn copied(width: u64, args: [i64; 4], count: u64) -> Answer
 }
 
 // fxrotate-bit-field
+#[inline(always)]
 pub fn rotated(width: u64, args: [i64; 4], count: u64) -> Answer
     requires { Accepted width 40 args count }
     ensures { result ≡ answer (outcome width 40 (counted args count)) }
@@ -45,6 +47,7 @@ pub fn rotated(width: u64, args: [i64; 4], count: u64) -> Answer
 }
 
 // fxreverse-bit-field, which takes the field as a number, and puts the new one back.
+#[inline(always)]
 pub fn reversed(width: u64, args: [i64; 4], count: u64) -> Answer
     requires { Accepted width 41 args count }
     ensures { result ≡ answer (outcome width 41 (counted args count)) }
@@ -56,6 +59,7 @@ pub fn reversed(width: u64, args: [i64; 4], count: u64) -> Answer
     done(field::copy_bit_field(x, start, end, turned), 0)
 }
 
+#[inline(always)]
 pub fn fields(width: u64, code: u64, args: [i64; 4], count: u64) -> Answer
     requires accepted { Accepted width code args count }
     requires le_code { (35 ≤ code) × (code ≤ 41) × (36 < code → 40 ≤ code) }

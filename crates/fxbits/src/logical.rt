@@ -28,6 +28,7 @@ pub fn choose(width: u64, args: [i64; 4], count: u64) -> Answer
 }
 
 // fxand fxior fxxor
+#[inline(always)]
 pub fn combined(width: u64, code: u64, args: [i64; 4], count: u64) -> Answer
     requires accepted { Accepted width code args count }
     requires le_code { (26 ≤ code) × (code ≤ 28) }
@@ -40,6 +41,7 @@ pub fn combined(width: u64, code: u64, args: [i64; 4], count: u64) -> Answer
     }
 }
 
+#[inline(always)]
 pub fn logical(width: u64, code: u64, args: [i64; 4], count: u64) -> Answer
     requires accepted { Accepted width code args count }
     requires le_code { (25 ≤ code) × (code ≤ 29) }

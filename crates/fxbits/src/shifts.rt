@@ -13,6 +13,7 @@ use widewords::wide::multiply;
 use words::sign::{absolute, from_magnitude, is_negative, magnitude, power};
 
 // x * 2^k
+#[inline(always)]
 fn left(width: u64, x: i64, k: u64) -> Answer
     requires { (is_width width ≡ true) × (k < 64) }
     ensures { result ≡ answer (calls.checked 6 width (shift_left x k, pos 0)) }
@@ -33,6 +34,7 @@ fn right(x: i64, k: u64) -> i64
 }
 
 // fxarithmetic-shift, which goes to the right where the distance is negative.
+#[inline(always)]
 pub fn shift_either(width: u64, args: [i64; 4], count: u64) -> Answer
     requires { Accepted width 37 args count }
     ensures { result ≡ answer (outcome width 37 (counted args count)) }
@@ -48,6 +50,7 @@ pub fn shift_either(width: u64, args: [i64; 4], count: u64) -> Answer
 }
 
 // fxarithmetic-shift-left
+#[inline(always)]
 pub fn shift_left(width: u64, args: [i64; 4], count: u64) -> Answer
     requires { Accepted width 38 args count }
     ensures { result ≡ answer (outcome width 38 (counted args count)) }
@@ -65,6 +68,7 @@ pub fn shift_right(width: u64, args: [i64; 4], count: u64) -> Answer
     done(right(x, absolute(args[1])), 0)
 }
 
+#[inline(always)]
 pub fn shift(width: u64, code: u64, args: [i64; 4], count: u64) -> Answer
     requires accepted { Accepted width code args count }
     requires le_code { (37 ≤ code) × (code ≤ 39) }

@@ -3,5 +3,4 @@ pub mod FixnumLaws
 pub mod DomainLaws
 pub mod ArgumentLaws
 pub mod LoopLaws
-pub mod TurnLaws
 pub mod ExactLaws

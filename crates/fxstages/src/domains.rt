@@ -1,5 +1,5 @@
 // Which argument of a call is the first outside its domain.
-ghost use Rattle.std.specs.Prelude.{◌≡◌, true, cond, eqb, ◌≤◌, pos};
+ghost use Rattle.std.specs.Prelude.{◌≡◌, true, ◌≤◌, pos};
 ghost use Rattle.bits.specs.Range as range;
 ghost use Rattle.outcomes.specs.Tests.{first_failed};
 ghost use Rattle.fxtable.specs.declared.domains.Domain.TheVariants.{Rotation};
@@ -8,7 +8,7 @@ ghost use Rattle.fxtable.specs.Table.{row_of};
 ghost use Rattle.fxtable.specs.Calls.{is_count, counted};
 
 use fxtable::domains::Domain;
-use fxtable::table::{Signature, signature_of};
+use fxtable::table::signature_of;
 use words::range::within;
 use words::sign::absolute;
 
@@ -40,6 +40,7 @@ fn accepts(domain: Domain, width: u64, args: [i64; 4], i: u64) -> bool
 }
 
 // The place of the first argument that lies outside its domain, counted from 1; 0 where each lies in it. The first may be any fixnum.
+#[inline(always)]
 pub fn first_outside(width: u64, code: u64, args: [i64; 4], count: u64) -> u64
     requires width_value { domains.is_width width ≡ true }
     requires count_value { is_count code count ≡ true }
@@ -57,35 +58,6 @@ pub fn first_outside(width: u64, code: u64, args: [i64; 4], count: u64) -> u64
     let fourth = s.fourth;
     if !accepts(fourth, width, args, 3) {
         return 4;
-    }
-    0
-}
-
-// The domain of argument i, from 1 to 3.
-fn domain_of(s: Signature, i: u64) -> Domain
-    ensures { result ≡ cond (eqb i 1) s.second (cond (eqb i 2) s.third s.fourth) }
-{
-    match i {
-        1 => s.second,
-        2 => s.third,
-        _ => s.fourth,
-    }
-}
-
-// The same as `first_outside`, argument by argument in a loop: for the evaluator of rules. Each is built into its one caller, so that neither
-// caller makes the other slower.
-pub fn first_outside_in_turn(width: u64, code: u64, args: [i64; 4], count: u64) -> u64
-    requires width_value { domains.is_width width ≡ true }
-    requires count_value { is_count code count ≡ true }
-    ensures { result ≡ first_failed (domains.domain_tests (row_of code).domains width (counted args count)) }
-{
-    let s = signature_of(code);
-    let mut i = 1;
-    while i < 4 {
-        if !accepts(domain_of(s, i), width, args, i) {
-            return i + 1;
-        }
-        i += 1;
     }
     0
 }

@@ -29,6 +29,7 @@ fn rounds_up(nearest: bool, negative: bool, r: u64, b: u64) -> bool
 }
 
 // div and mod of x by y, or div0 and mod0 where nearest.
+#[inline(always)]
 pub fn divide(nearest: bool, x: i64, y: i64) -> Quotient
     requires { 0 < unsigned_abs y }
     ensures { Divided nearest x y result }

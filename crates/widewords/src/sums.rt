@@ -18,6 +18,7 @@ pub fn difference(x: i64, y: i64, z: i64) -> Double
     subtract(subtract(of_word(x), of_word(y)), of_word(z))
 }
 
+#[inline(always)]
 pub fn product_and(x: i64, y: i64, z: i64) -> Double
     ensures { double_word result ≡ mod_ℕ ((x *ℤ y) +ℤ z) (2 ^ 128) }
 {

@@ -13,6 +13,7 @@ pub struct Wide {
 }
 
 // a * b, by halves of 32 bits, in columns: each sum below is at most 2^64 - 1.
+#[inline(always)]
 pub fn multiply(negative: bool, a: u64, b: u64) -> Wide
     ensures { wide_value result ≡ with_sign negative (a * b) }
 {
@@ -30,6 +31,7 @@ pub fn multiply(negative: bool, a: u64, b: u64) -> Wide
     }
 }
 
+#[inline(always)]
 pub fn product(x: i64, y: i64) -> Wide
     ensures { wide_value result ≡ x *ℤ y }
 {

@@ -72,6 +72,7 @@ pub fn bit_field(x: i64, start: u64, end: u64) -> u64
 //     start 2, end 5     x         h g f e d c b a
 //                        y                   r q p
 //                        result    h g f r q p b a
+#[inline(always)]
 pub fn copy_bit_field(x: i64, start: u64, end: u64, y: u64) -> i64
     requires { (start ≤ end) × (end < 64) }
     ensures { result ≡ copy_bit_field x start end (pos y) }

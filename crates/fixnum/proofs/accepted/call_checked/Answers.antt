@@ -9,7 +9,6 @@ use Rattle.fxtable.specs.Calls.{all_fixnums, fixnum_answer, answer}
 use Rattle.fxtable.specs.Inner.{Accepted}
 use Rattle.fxtable.proofs.TableLaws.{code-bounds}
 use Rattle.fxtable.proofs.CallLaws.{accepted, refused-as}
-use Rattle.fixnum.proofs.OneResult.{no-carry}
 use Rattle.fixnum.proofs.accepted.call_checked.Goals as goal
 use Rattle.fixnum.proofs.accepted.call_checked.Goals.{Else-place-ne0}
 
@@ -17,7 +16,7 @@ accepts : (c : Else-place-ne0) → let a = c.args in Accepted a.width a.code a.a
 unfolding in_domains
 accepts c =
     let k = c.requires.checked in
-    record { width = k.width; arity = k.arity; fixnums = k.fixnums; domains = none-failed _ (sym c.first_outside_in_turn-place.ensures ∙ c.if-place-ne0.false) }
+    record { width = k.width; arity = k.arity; fixnums = k.fixnums; domains = none-failed _ (sym c.first_outside-place.ensures ∙ c.if-place-ne0.false) }
 
 pub returns-then-place-ne0 : goal.returns-then-place-ne0
 unfolding fixnum_answer all_fixnums code_of
@@ -28,15 +27,13 @@ returns-then-place-ne0 c =
     ∙ passed 2 _ k.known
     ∙ passed 3 _ k.arity
     ∙ passed-each _ 4 _ k.fixnums
-    ∙ failed-each _ 5 _ (some-failed _ (λ e. c.if-place-ne0.true (c.first_outside_in_turn-place.ensures ∙ e)))
-    ∙ ap (refused 5) (sym c.first_outside_in_turn-place.ensures)))
+    ∙ failed-each _ 5 _ (some-failed _ (λ e. c.if-place-ne0.true (c.first_outside-place.ensures ∙ e)))
+    ∙ ap (refused 5) (sym c.first_outside-place.ensures)))
 
-pub operate_one-requires : goal.operate_one-requires
-operate_one-requires c =
-    let bounds = code-bounds c.args.code c.requires.checked.known in
-    record { accepted = accepts c; le_code = (bounds.0, bounds.1, no-carry c.args.code c.requires.checked.known c.requires.code_value) }
+pub operate-requires : goal.operate-requires
+operate-requires c = record { accepted = accepts c; le_code = code-bounds c.args.code c.requires.checked.known }
 
 pub returns : goal.returns
 returns c =
     let a = c.args in
-    c.operate_one.ensures ∙ sym (accepted a.width a.code a.args a.count c.requires.checked.known (accepts c.before))
+    c.operate.ensures ∙ sym (accepted a.width a.code a.args a.count c.requires.checked.known (accepts c.before))
