@@ -7,7 +7,6 @@ ghost use Rattle.widewords.specs.Double.{double_word};
 ghost use Rattle.widewords.specs.Wide.{wide_value};
 
 use super::wide::Wide;
-use std::num::{wrapping_add_u64, wrapping_sub_u64};
 use words::sign::magnitude;
 
 #[derive(Clone, Copy)]
@@ -38,11 +37,11 @@ fn carries(sum: u64, term: u64) -> bool
 pub fn add(s: Double, t: Double) -> Double
     ensures { double_word result ≡ mod_ℕ (pos (double_word s) +ℤ pos (double_word t)) (2 ^ 128) }
 {
-    let low = wrapping_add_u64(s.low, t.low);
+    let low = s.low.wrapping_add(t.low);
     let carry = carries(low, s.low);
-    let high = wrapping_add_u64(s.high, t.high);
+    let high = s.high.wrapping_add(t.high);
     Double {
-        high: wrapping_add_u64(high, carry as u64),
+        high: high.wrapping_add(u64::from(carry)),
         low,
     }
 }
@@ -50,11 +49,11 @@ pub fn add(s: Double, t: Double) -> Double
 pub fn subtract(s: Double, t: Double) -> Double
     ensures { double_word result ≡ mod_ℕ (pos (double_word s) -ℤ pos (double_word t)) (2 ^ 128) }
 {
-    let low = wrapping_sub_u64(s.low, t.low);
+    let low = s.low.wrapping_sub(t.low);
     let borrow = s.low < t.low;
-    let high = wrapping_sub_u64(s.high, t.high);
+    let high = s.high.wrapping_sub(t.high);
     Double {
-        high: wrapping_sub_u64(high, borrow as u64),
+        high: high.wrapping_sub(u64::from(borrow)),
         low,
     }
 }

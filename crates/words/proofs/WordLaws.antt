@@ -1,17 +1,17 @@
 -- How the logic reads a signed 64-bit word, said of integers: the bits of x, read as signed, are x; what the machine's sign test, complement and
 -- casts give. Assumes nothing.
-use Prim.Native.Nat.{ℕ, zero, zero-le, suc, ◌+◌, ◌-◌, ◌<◌, ◌^◌}
+use Prim.Native.Nat.{ℕ, zero, zero-le, suc, ◌-◌, ◌<◌, ◌^◌}
 use native.Mathlib.Omega.{arith}
-use mathlib.Core.Path.{◌≡◌, refl, sym, ap, ap₂, ◌∙◌, subst}
+use mathlib.Core.Path.{◌≡◌, refl, sym, ap, ◌∙◌, subst}
 use mathlib.Core.Bool.{Bool, true, false, cond, not, true≢false}
 use lib.Dec.{T, leb, ltb}
 use lib.Pow.{pow_pos}
-use lib.IntN.{ℤ, pos, negsuc, neg_ℤ, nat_abs, ◌-ℤ◌}
+use lib.IntN.{ℤ, pos, negsuc, neg_ℤ, nat_abs}
 use lib.Signed.{mag, le_z, lt_z, non_neg}
 use mir.Syntax.{w64}
 use mir.Val.{Fits, SFits, to_z, of_z}
 use mir.ValLaws.{to_z-of_z, to_z_pos, to_z-neg}
-use borrow.Author.Tests.{le-ltb, lt-ltb, le-leb, lt-leb, ltb-true}
+use borrow.Author.Tests.{le-ltb, lt-ltb, le-leb, ltb-true}
 use Rattle.bits.specs.Testbit.{is_negative, fits}
 use Rattle.words.specs.Sign.{with_sign, of_magnitude}
 use Rattle.bits.specs.Logical.{bitwise_not}
@@ -64,22 +64,9 @@ pub natural-pos : (d : ℤ) {r : ℕ} → le_z (pos 0) d ≡ true → r ≡ nat_
 natural-pos (pos n) h e = ap pos (sym e)
 natural-pos (negsuc n) h e = absurd (true≢false (sym h))
 
--- -1 - x, as the machine has it
-pub minus-one-minus : (x : ℤ) → is_negative x ≡ true → negsuc 0 -ℤ x ≡ pos (mag x)
-unfolding is_negative
-minus-one-minus (pos n) h = let z : ◌≡◌ {A = ℕ} 0 1 = cc in absurd (omega arith)
-minus-one-minus (negsuc n) h =
-    let e : suc n - 1 ≡ n = omega arith in
-    ap₂ (λ (t : Bool) (m : ℕ). cond t (negsuc (1 - suc (suc n))) (pos m)) (lt-leb (suc (suc n)) 1 (omega arith)) e
-
 -- what the cast of a signed word to an unsigned one asks, and what it gives
 pub cast-word : {z : ℤ} {m : ℕ} → z ≡ pos m → m < 2 ^ 63 → T (non_neg z) × Fits w64 (nat_abs z)
 cast-word {z} {m} e h = subst (λ (y : ℤ). T (non_neg y) × Fits w64 (nat_abs y)) (sym e) (tt, record { fits = omega arith })
-
-pub nat_abs-negative : (x : ℤ) → is_negative x ≡ true → nat_abs x ≡ mag x + 1
-unfolding is_negative
-nat_abs-negative (pos n) h = let z : ◌≡◌ {A = ℕ} 0 1 = cc in absurd (omega arith)
-nat_abs-negative (negsuc n) h = omega arith
 
 -- an integer from its sign and its absolute value, by the sign
 pub sign_zero : (negative : Bool) {n : ℕ} → n ≡ 0 → pos 0 ≡ with_sign negative n

@@ -9,7 +9,7 @@ use super::sign::{absolute, from_magnitude, is_negative, magnitude};
 pub fn bit_count(x: i64) -> i64
     ensures { result ≡ bit_count x }
 {
-    let ones = u64::count_ones(magnitude(x)) as u64;
+    let ones = u64::from(magnitude(x).count_ones());
     from_magnitude(is_negative(x), ones)
 }
 
@@ -17,7 +17,7 @@ pub fn bit_count(x: i64) -> i64
 pub fn length(x: i64) -> i64
     ensures { result ≡ pos (bit_length x) }
 {
-    let zeros = u64::leading_zeros(magnitude(x)) as u64;
+    let zeros = u64::from(magnitude(x).leading_zeros());
     from_magnitude(false, 64 - zeros)
 }
 
@@ -29,6 +29,6 @@ pub fn first_bit_set(x: i64) -> i64
     if n == 0 {
         -1
     } else {
-        from_magnitude(false, u64::trailing_zeros(n) as u64)
+        from_magnitude(false, u64::from(n.trailing_zeros()))
     }
 }

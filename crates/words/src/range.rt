@@ -6,5 +6,5 @@ ghost use Rattle.bits.specs.Range as range;
 pub fn within(low: i64, x: i64, high: i64) -> bool
     ensures { result ≡ range.within low x high }
 {
-    low <= x && x <= high
+    (low..=high).contains(&x)
 }

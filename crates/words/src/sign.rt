@@ -21,7 +21,7 @@ pub fn magnitude(x: i64) -> u64
 pub fn absolute(x: i64) -> u64
     ensures { result ≡ nat_abs x }
 {
-    if x < 0 { (-1 - x) as u64 + 1 } else { x as u64 }
+    x.unsigned_abs()
 }
 
 pub fn from_magnitude(negative: bool, m: u64) -> i64
@@ -67,5 +67,5 @@ pub fn absolute_fits(width: u64, negative: bool, n: u64) -> bool
     ensures { result ≡ fits width (with_sign negative n) }
 {
     let half = power(width - 1);
-    n < half + negative as u64
+    n < half + u64::from(negative)
 }

@@ -1,5 +1,5 @@
 -- `widewords::double::add` meets its contract. Assumes nothing.
-use Rattle.std.proofs.Common.{arith}
+use Rattle.std.proofs.Common.{arith, refl}
 use Rattle.bits.specs.Division.{mod_ℕ}
 use Rattle.widewords.specs.Double.{double_word}
 use Rattle.widewords.proofs.DoubleLaws.{sum-words}
@@ -9,5 +9,5 @@ pub returns : goal.returns
 unfolding double_word mod_ℕ
 returns c =
     let a = c.args in
-    sum-words a.s.high a.s.low a.t.high a.t.low _ _ _ (c.carries-carry.ensures a.t.low (omega arith) c.wrapping_add_u64-low.ensures.value)
-    (cc (c.wrapping_add_u64.ensures.value, c.wrapping_add_u64-high.ensures.value)) (omega arith) (omega arith)
+    sum-words a.s.high a.s.low a.t.high a.t.low _ _ _ (c.carries-carry.ensures a.t.low (omega arith) refl)
+    (rw c.from.ensures) (omega arith) (omega arith)

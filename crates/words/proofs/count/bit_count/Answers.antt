@@ -12,9 +12,6 @@ use Rattle.words.proofs.WordLaws.{back}
 use Rattle.words.proofs.CountWords.{count-bit_count}
 use Rattle.words.proofs.count.bit_count.Goals as goal
 
-pub overflow_cast-ones : goal.overflow_cast-ones
-overflow_cast-ones c = record { fits = omega (arith, ones-le 64 c.magnitude.result c.magnitude.type_inv) }
-
 pub from_magnitude-requires : goal.from_magnitude-requires
 from_magnitude-requires c = omega (arith, ones-le 64 c.magnitude.result c.magnitude.type_inv)
 
@@ -23,6 +20,7 @@ returns c =
     let a = c.before.before.before in
     back (record { sfits = c.from_magnitude.type_inv })
     ∙ c.from_magnitude.ensures
+    ∙ ap (of_magnitude c.is_negative.result) c.from-ones.ensures
     ∙ ap₂ (λ (b : Bool) (m : ℕ). of_magnitude b (digits.ones m))
     (c.is_negative.ensures ∙ ap is_negative (back a.ranges.x))
     (c.magnitude.ensures ∙ ap mag (back a.ranges.x))

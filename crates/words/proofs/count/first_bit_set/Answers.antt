@@ -11,9 +11,6 @@ use Rattle.words.proofs.WordLaws.{back}
 use Rattle.words.proofs.CountWords.{trailing-first_bit_set, none-first_bit_set}
 use Rattle.words.proofs.count.first_bit_set.Goals as goal
 
-pub overflow_cast-n : goal.overflow_cast-n
-overflow_cast-n c = record { fits = omega (arith, trailing_le 64 c.absolute-n.result) }
-
 pub from_magnitude-requires : goal.from_magnitude-requires
 from_magnitude-requires c = omega (arith, trailing_le 64 c.absolute-n.result)
 
@@ -30,5 +27,6 @@ returns-else-n-eq0 c =
     let positive : 0 < nat_abs a.args.x = omega (arith, e, c.if-n-eq0.false) in
     back (record { sfits = c.from_magnitude.type_inv })
     ∙ c.from_magnitude.ensures
+    ∙ ap pos c.from.ensures
     ∙ ap (λ (n : ℕ). pos (digits.count_trailing_zeros 64 n)) e
     ∙ sym (trailing-first_bit_set a.args.x 64 positive (omega (arith, nat_abs-le a.args.x a.ranges.x.sfits)))

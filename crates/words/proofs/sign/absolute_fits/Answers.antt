@@ -30,9 +30,10 @@ one_more false w h = let p = pow_mono {i = w - 1} {j = 63} (omega arith) in omeg
 pub overflow_add-result : goal.overflow_add-result
 overflow_add-result c =
     let a = c.before in
-    record { fits = rw c.power-half.ensures (one_more a.args.negative a.args.width a.requires.1) }
+    record { fits = rw (c.power-half.ensures, c.from.ensures) (one_more a.args.negative a.args.width a.requires.1) }
 
 pub returns : goal.returns
 returns c =
     let a = c.args in
-    ap (λ (p : ℕ). ltb a.n (p + bool_byte a.negative)) c.power-half.ensures ∙ test a.negative a.width a.n
+    rw c.from.ensures
+    (ap (λ (p : ℕ). ltb a.n (p + bool_byte a.negative)) c.power-half.ensures ∙ test a.negative a.width a.n)
