@@ -118,17 +118,13 @@ fn fixnum_entry(code: u64) -> (&'static str, &'static str) {
     FIXNUM.get(index as usize).copied().unwrap_or(("", ""))
 }
 
-pub fn fixnum_name(code: u64) -> &'static str {
-    fixnum_entry(code).0
-}
-
-// The same as a value that is printed.
+// The name of the fixnum operation with a code, as a value that is printed.
 #[derive(Clone, Copy)]
 pub struct FixnumName(pub u64);
 
 impl fmt::Display for FixnumName {
     fn fmt<W: fmt::Write>(&self, f: &mut fmt::Formatter<W>) -> fmt::Result {
-        write!(f, "{}", fixnum_name(self.0))
+        write!(f, "{}", fixnum_entry(self.0).0)
     }
 }
 
