@@ -42,9 +42,6 @@ unfolding opened opened_as code_of answer
 returns-then-not-is_width-clause-err c =
     sym (ap opened (rotation-stages c.args.f ∙ ap answer (failed 1 _ (sym c.is_width.ensures ∙ c.if-not-is_width.true))))
 
-pub first_not_fixnum-place-requires : goal.first_not_fixnum-place-requires
-first_not_fixnum-place-requires c = (sym c.is_width.ensures ∙ c.if-not-is_width.false, omega arith)
-
 pub returns-then-place-ne0-clause-err : goal.returns-then-place-ne0-clause-err
 unfolding opened opened_as code_of answer
 returns-then-place-ne0-clause-err c =
@@ -55,9 +52,6 @@ returns-then-place-ne0-clause-err c =
     (passed 1 _ (sym c.is_width.ensures ∙ c.if-not-is_width.false)
     ∙ failed-each _ 4 _ (some-failed _ (λ e. c.if-place-ne0.true (first ∙ e)))
     ∙ ap (refused 4) (sym first))))
-
-pub first_outside-requires : goal.first_outside-requires
-first_outside-requires c = sym c.is_width.ensures ∙ c.if-not-is_width.false
 
 pub returns-in-Some-clause-err : goal.returns-in-Some-clause-err
 unfolding opened opened_as code_of answer
