@@ -28,16 +28,13 @@ fn put_digits(digits: &[u8], out: &mut [u32]) -> usize
     ensures value { result ≡ (length digits.now + 7) / 8 + 1 }
     ensures out_after { out.new ≡ limbs_of result (pos (numeral 16 digits.now)) ++ drop result out.old }
 {
-    let mut left = digits.len();
-    let mut j = 0;
-    while 0 < left {
-        let from = if 8 < left { left - 8 } else { 0 };
-        out[j] = digits_limb(&digits[from..left]);
-        left = from;
-        j += 1;
+    let n = digits.len().div_ceil(8);
+    for j in 0..n {
+        let left = digits.len() - 8 * j;
+        out[j] = digits_limb(&digits[left.saturating_sub(8)..left]);
     }
-    out[j] = 0;
-    j + 1
+    out[n] = 0;
+    n + 1
 }
 
 // The same of one word.

@@ -20,11 +20,9 @@ pub fn negate(x: &mut [u32])
     ensures { x.new ≡ limbs_of (length x.old) (neg_ℤ (value x.old)) }
 {
     let mut lower = false;
-    let mut j = 0;
-    while j < x.len() {
-        let n = x[j];
-        x[j] = negated(n, lower);
-        lower = lower || n != 0;
-        j += 1;
+    for limb in x.iter_mut() {
+        let n = *limb;
+        *limb = negated(n, lower);
+        lower |= n != 0;
     }
 }
