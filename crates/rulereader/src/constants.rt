@@ -45,7 +45,8 @@ fn join(start: usize, rest: Groups, g: u64) -> Result<Groups, Offence>
     }
 }
 
-// At most k groups from `at` on, of an integer that begins at `start`.
+// At most k groups from `at` on, of an integer that begins at `start`. It calls itself, and does not loop, since the groups are joined from the
+// last to the first.
 fn read_groups(s: &[u8], start: usize, at: usize, k: u64) -> Result<Groups, Offence>
     requires { (start ≤ length s.now) × (at ≤ length s.now) }
     ensures { GroupsRead s.now (constant_from (length (drop start s.now)) k (drop at s.now)) result }
