@@ -29,14 +29,13 @@ fn hex_length(x: &[u32]) -> usize
     requires { (0 < length x.now) × (8 * length x.now < 2 ^ 64) }
     ensures { (result ≡ hex_length (natural x.now)) × (result ≤ 8 * length x.now) }
 {
-    let mut k = 8 * x.len();
-    while 1 < k {
-        if nibble(x, k - 1) != 0 {
-            return k;
+    let least = 1;
+    for i in (least..8 * x.len()).rev() {
+        if nibble(x, i) != 0 {
+            return i + 1;
         }
-        k -= 1;
     }
-    k
+    least
 }
 
 // Puts its last k digits at the start of out.
@@ -44,10 +43,8 @@ fn put_nibbles(x: &[u32], k: usize, out: &mut [u8])
     requires { (k ≤ 8 * length x.now) × (k ≤ length out.old) }
     ensures { out.new ≡ digits 16 k (natural x.now) ++ drop k out.old }
 {
-    let mut i = 0;
-    while i < k {
+    for i in 0..k {
         out[k - 1 - i] = glyph(nibble(x, i));
-        i += 1;
     }
 }
 

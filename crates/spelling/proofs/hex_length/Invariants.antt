@@ -5,8 +5,5 @@ use Rattle.text.specs.Naturals.{natural}
 use Rattle.spelling.proofs.DigitLaws.{Below}
 use Rattle.spelling.proofs.hex_length.Given as goal
 
-abbrev pub invariant-loop-k : goal.invariant-loop-k
-invariant-loop-k l = (l.k ≤ 8 * length l.x) × Below (natural l.x) l.k
-
-abbrev pub decreases-loop-k : goal.decreases-loop-k
-decreases-loop-k l = l.k
+abbrev pub invariant-loop-i : goal.invariant-loop-i
+invariant-loop-i l = (l.i ≤ 8 * length l.x) × Below (natural l.x) l.i
