@@ -19,7 +19,8 @@ fn enough_for(x: &[u32], field: Field) -> usize
     x.len().max((field.end / 32) as usize + 1)
 }
 
-// An operation that changes no bit of x from the end of a field on.
+// An operation that changes no bit of x from the end of a field on. That operands are legal stays a fact of the limbs, here and in `shift`:
+// a type for it would give the limbs a second name, and each call's equation would have to lead back from it.
 pub fn run_field(
     operation: Operation,
     x: &[u32],
