@@ -4,7 +4,7 @@ use names::Operation;
 use outcomes::refusal::Refusal;
 use std::fmt;
 
-// The refusal with a number, as the answers have it that C reads; 0 is for a call that is done.
+// The refusal with a number, which the answers have that the C interface needs; 0 is for a call that is done.
 pub fn refusal_of(number: u64) -> Option<Refusal> {
     match number {
         1 => Some(Refusal::Width),

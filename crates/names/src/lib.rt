@@ -266,7 +266,7 @@ impl FlonumOperation {
     }
 }
 
-// An operation of any kind: a fixnum operation by its code.
+// An operation of any kind. A fixnum operation is its code, a number, since the C interface and `ql fx` have it so.
 #[derive(Clone, Copy, Debug, PartialEq, Eq)]
 pub enum Operation {
     Fixnum(u64),
