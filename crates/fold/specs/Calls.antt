@@ -12,7 +12,7 @@
 --   net_count f n                       ==  the count of one rotation that equals n of the record's: 0 where the field is empty
 --   joined f piece n                   ==  code 28's answer to the accumulator, rotated by the net count, and the piece
 --   joining f piece n                  ==  a piece of n bytes, folded from 0 by the same settings: refusal 9 as for a chunk, and 4 where it is no fixnum
-use Rattle.std.specs.Prelude.{ℕ, ◌*◌, ◌-◌, ◌%◌, cond, List, [], ◌∷◌, eqb, ℤ, pos, nat_abs, Result, Ok, Err}
+use Rattle.std.specs.Prelude.{ℕ, ◌*◌, ◌-◌, ◌%◌, cond, List, [], ◌∷◌, eqb, ℤ, pos, nat_abs, Result, Ok, Err, unwrap_or}
 use Rattle.outcomes.specs.declared.refusal.Refusal.{Refusal}
 use Rattle.outcomes.specs.Outcome.{Outcome, done, guard}
 use Rattle.outcomes.specs.Refusal.{code_of}
@@ -43,7 +43,7 @@ unfoldable pub opening : Fold → Opening
 opening f = record { opened = opened (rotation f); fold = cond (is_open f) f zeros }
 
 unfoldable pub opened_as : Refused → Opened
-opened_as e = record { refusal = code_of e.refusal; place = e.place }
+opened_as e = record { refusal = code_of e.refusal; place = unwrap_or e.place 0 }
 
 unfoldable pub opening_of : Result Fold Refused → Opening
 opening_of (Ok f) = record { opened = record { refusal = 0; place = 0 }; fold = f }

@@ -27,14 +27,14 @@ pub struct Fold {
     pub accumulator: i64,
 }
 
-// Why opening is refused, and the place of the field that it is refused for, or 0: accumulator 1, start 2, end 3, count 4.
+// Why opening is refused, and the place of the field that it is refused for, where it is one: accumulator 1, start 2, end 3, count 4.
 #[derive(Clone, Copy, Debug, PartialEq, Eq)]
 pub struct Refused {
     pub refusal: Refusal,
-    pub place: u64,
+    pub place: Option<u64>,
 }
 
-// The same for C: the refusal's number, and 0 for done.
+// The same for C: the refusal's number, 0 for done, and the place, 0 for none.
 #[repr(C)]
 #[derive(Clone, Copy, Debug, PartialEq, Eq)]
 pub struct Opened {

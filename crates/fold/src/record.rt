@@ -64,7 +64,7 @@ fn check(f: Fold) -> Result<(), Refused>
     if !is_width(f.width) {
         return Err(Refused {
             refusal: Refusal::Width,
-            place: 0,
+            place: None,
         });
     }
     let args = [f.accumulator, f.start, f.end, f.count];
@@ -72,13 +72,13 @@ fn check(f: Fold) -> Result<(), Refused>
     if place != 0 {
         return Err(Refused {
             refusal: Refusal::NotFixnum,
-            place,
+            place: Some(place),
         });
     }
     if let Some(place) = first_outside(f) {
         return Err(Refused {
             refusal: Refusal::Domain,
-            place,
+            place: Some(place),
         });
     }
     Ok(())

@@ -19,9 +19,9 @@ pub struct Reason {
 impl fmt::Display for Reason {
     fn fmt<W: fmt::Write>(&self, f: &mut fmt::Formatter<W>) -> fmt::Result {
         let Refused { refusal, place } = self.refused;
-        if place == 0 {
+        let Some(place) = place else {
             return write!(f, "{}", width_limit(self.width));
-        }
+        };
         let part = role(ROTATE, place).unwrap_or("the accumulator");
         let value = self.settings.at(place);
         let rule = broken_rule(ROTATE, refusal, place);

@@ -34,7 +34,7 @@ pub extern "C" fn ql_fold_open(
             *fold = Fold::default();
             Opened {
                 refusal: refused.refusal.into(),
-                place: refused.place,
+                place: refused.place.unwrap_or(0),
             }
         }
     }
