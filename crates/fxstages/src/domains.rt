@@ -39,7 +39,8 @@ fn accepts(domain: Domain, width: u64, args: [i64; 4], i: u64) -> bool
     }
 }
 
-// The place of the first argument that lies outside its domain, counted from 1; 0 where each lies in it. The first may be any fixnum.
+// The place of the first argument that lies outside its domain, counted from 1; 0 where each lies in it, as for `first_not_fixnum`.
+// The first may be any fixnum.
 #[inline(always)]
 pub fn first_outside(width: u64, code: u64, args: [i64; 4], count: u64) -> u64
     requires width_value { domains.is_width width ≡ true }
