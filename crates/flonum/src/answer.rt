@@ -1,4 +1,4 @@
-// What a flonum call answers.
+// What a flonum call answers: an enum of three cases with the refusal number, a form that a rule of the project asks for (docs/DECISIONS.md).
 ghost use Rattle.std.specs.Prelude.{◌≡◌};
 ghost use Rattle.flonum.specs.Calls.{flat, truth};
 

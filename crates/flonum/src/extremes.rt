@@ -22,6 +22,7 @@ pub struct ExtremesAnswer {
     pub values: Extremes,
 }
 
+// Not f64::min: among equals, as 0 and -0, the earlier is kept (`kept`).
 fn smaller(old: f64, x: f64) -> f64
     ensures { result ≡ kept lt old x }
 {

@@ -36,6 +36,7 @@ pub fn bits(x: f64) -> u64
     }
 }
 
+// Not f64::abs, which leaves a NaN as it is: every NaN that a call answers is the one NaN.
 pub fn without_sign(x: f64) -> f64
     ensures { result ≡ clear_sign x }
 {
