@@ -16,7 +16,7 @@ fn put_inner(x: &[u32], i: usize, k: u64, part: &mut [u32])
     ensures { Puts 0 (λ j. bits_from (value x.now) (32 * i + k + 32 * j)) part.old part.new 0 (length part.old) }
 {
     if k == 0 {
-        part.copy_from_slice(&x[i..i + part.len()]);
+        put_each(|j| x[i + j], part);
     } else {
         put_each(|j| join(x[i + j], x[i + j + 1], k), part);
     }
