@@ -9,7 +9,9 @@ use names::Bitwise;
 use std::fmt;
 
 // How many arguments an operation takes.
-pub fn arity(operation: Bitwise) -> usize {
+pub fn arity(operation: Bitwise) -> usize
+    ensures { result ≤ 4 }
+{
     match operation {
         Bitwise::Not | Bitwise::BitCount | Bitwise::Length | Bitwise::FirstBitSet => 1,
         Bitwise::And | Bitwise::Ior | Bitwise::Xor | Bitwise::BitSet => 2,

@@ -1,6 +1,5 @@
 // What a call answers that writes nothing: a refusal number, 0 for done, and a number, 0 where the call is refused.
 ghost use Rattle.std.specs.Prelude.{◌≡◌};
-ghost use Rattle.outcomes.specs.Outcome as outcome;
 ghost use Rattle.outcomes.specs.Number.{number};
 ghost use Rattle.outcomes.specs.Refusal.{outcome_of};
 
@@ -25,23 +24,5 @@ impl From<Result<i64, Refusal>> for Number {
                 value: 0,
             },
         }
-    }
-}
-
-pub fn refuse_number(k: u64) -> Number
-    ensures { result ≡ number (outcome.refuse k) }
-{
-    Number {
-        refusal: k,
-        value: 0,
-    }
-}
-
-pub fn done(v: i64) -> Number
-    ensures { result ≡ number (outcome.done v) }
-{
-    Number {
-        refusal: 0,
-        value: v,
     }
 }
