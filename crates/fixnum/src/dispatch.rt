@@ -14,7 +14,7 @@ use fxbits::logical::logical;
 use fxbits::shifts::shift;
 use fxtable::answer::Answer;
 
-// By halves: the compiler takes a call that stands behind many tests for a rare one, and does not build it in.
+// By halves, so that few comparisons find a code. The `match` over codes is within the families.
 #[inline(always)]
 pub fn operate(width: u64, code: u64, args: [i64; 4], count: u64) -> Answer
     requires accepted { Accepted width code args count }

@@ -8,9 +8,8 @@ use output::numerals::Both;
 
 fn put_decimal(x: f64, out: &mut Output) {
     let mut space = [0u8; 32];
-    let mut decimal = Output::new(&mut space);
-    put_shortest(x, &mut decimal);
-    out.put(decimal.text());
+    let n = put_shortest(x, &mut space);
+    out.put(&space[..n]);
 }
 
 fn put_hexadecimal(x: f64, out: &mut Output) {

@@ -1,5 +1,5 @@
 // The text with the fewest digits.
-ghost use Rattle.std.specs.Prelude.{◌≡◌, ◌<◌, ◌≤◌, true};
+ghost use Rattle.std.specs.Prelude.{◌≡◌, ◌<◌, ◌≤◌, ◌++◌, true, length, drop};
 ghost use Rattle.fldecimal.specs.Spellings.{Spells};
 
 use super::candidate::{is_negative, try_number, try_word};
@@ -57,8 +57,8 @@ fn try_finite(x: f64, out: &mut Output) -> bool
     }
 }
 
-// Makes the buffer's text one that is read as x, with the fewest digits, or none where there is no room.
-pub fn put_shortest(x: f64, out: &mut Output)
+// Makes the buffer's text one that is read as x, with the fewest digits, or none.
+fn try_shortest(x: f64, out: &mut Output)
     ensures { Spells x out.new.filled out.new.bytes.now }
 {
     let found = if is_finite(x) {
@@ -69,4 +69,27 @@ pub fn put_shortest(x: f64, out: &mut Output)
     if !found {
         out.clear();
     }
+}
+
+// Copies a text to the start of a buffer that has room for it.
+fn copy(text: &[u8], out: &mut [u8])
+    requires { length text.now ≤ length out.old }
+    ensures { out.new ≡ text.now ++ drop (length text.now) out.old }
+{
+    out[..text.len()].copy_from_slice(text);
+}
+
+// Puts a text that is read as x, with the fewest digits, at the start of out, and answers how many bytes it has; 0 where there is no room.
+pub fn put_shortest(x: f64, out: &mut [u8]) -> usize
+    ensures { Spells x result out.new }
+{
+    let mut space = [0u8; 32];
+    let mut output = Output::new(&mut space);
+    try_shortest(x, &mut output);
+    let text = output.text();
+    if out.len() < text.len() {
+        return 0;
+    }
+    copy(text, out);
+    text.len()
 }

@@ -12,6 +12,7 @@ pub fn the_nan() -> f64
     0.0 / 0.0
 }
 
+// The library's, under a name that the edit infinity_is_finite turns.
 pub fn is_finite(x: f64) -> bool
     ensures { result ≡ finite x }
 {

@@ -9,6 +9,7 @@ mod reading;
 mod rounding;
 pub mod scale;
 
+pub use exponent::Exponent;
 pub use reading::read_flonum;
 
 // Why a text is read as no flonum: it is none, or it has too many digits or too large an exponent.

@@ -18,8 +18,8 @@ fn passes(width: u64, args: [i64; 4], count: u64, i: u64) -> bool
     is_fixnum(width, args[i as usize])
 }
 
-// The place of the first argument up to the count that is no fixnum, counted from 1; 0 where each is one, which is an answer's place in C
-// and `first_failed` of the clause. Without a loop, so that the arguments stay in registers.
+// The place of the first argument up to the count that is no fixnum, counted from 1; 0 where each is one: the place of a C answer,
+// into which it goes as it is. Without a loop, so that the arguments stay in registers.
 pub fn first_not_fixnum(width: u64, args: [i64; 4], count: u64) -> u64
     requires { (is_width width ≡ true) × (count ≤ 4) }
     ensures { result ≡ first_failed (fixnum_tests width (counted args count)) }

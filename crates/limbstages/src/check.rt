@@ -79,7 +79,7 @@ fn natural(n: i64) -> Result<u64, Refusal>
     u64::try_from(n).or(Err(Refusal::Domain))
 }
 
-// Start and end of a field. The one test has shown both natural: `try_from` would test each again, here and for a new bit.
+// Start and end of a field. The test has shown that both are natural; `try_from` would be a second way out that is never taken.
 fn field(start: i64, end: i64) -> Result<Field, Refusal>
     ensures { field_of result ≡ field start end (outcome.done (nat_abs start, nat_abs end)) }
 {

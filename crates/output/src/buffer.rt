@@ -30,7 +30,7 @@ impl<'a> Output<'a> {
         self.filled = put(text, self.bytes, self.filled);
     }
 
-    // The text of a value.
+    // The text of a value. What that is, the value's own `fmt` says, by calls of write_str: so there is no clause.
     pub fn print<T: fmt::Display + Drop>(&mut self, value: T) {
         let _ = write!(self, "{value}");
     }

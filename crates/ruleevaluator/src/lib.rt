@@ -78,7 +78,7 @@ fn evaluate_rule(rule: &[u8], inputs: &[i64]) -> RuleAnswer
             let width = runs_at(stored.width);
             rule_answer(evaluate_form(rule, stored.form, DEEPEST, width, inputs))
         }
-        Err(offence) => bad_rule(Refusal::BadRule, offence.offset),
+        Err(offence) => bad_rule(Refusal::BadRule.into(), offence.offset as u64),
     }
 }
 
@@ -96,6 +96,6 @@ pub fn evaluate_lent(rule: &[u8], inputs: &[i64]) -> RuleAnswer
     if inputs.len() == 16 {
         evaluate_rule(rule, inputs)
     } else {
-        bad_rule(Refusal::Count, 0)
+        bad_rule(Refusal::Count.into(), 0)
     }
 }

@@ -23,7 +23,7 @@ fn read_form(s: &[u8], at: usize, depth: u64) -> Result<usize, Offence>
     }
 }
 
-// n forms from `at` on. It calls itself, as the definition that it keeps to does: a loop would be no plainer, and would need an invariant.
+// n forms from `at` on.
 #[cycle(read_form_read_forms)]
 fn read_forms(s: &[u8], at: usize, depth: u64, n: u64) -> Result<usize, Offence>
     requires { at ≤ length s.now }

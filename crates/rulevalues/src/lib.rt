@@ -4,7 +4,6 @@
 
 ghost use Rattle.std.specs.Prelude.{◌≡◌, true, ◌≤◌, drop, length};
 ghost use Rattle.bits.specs.Testbit.{fits};
-ghost use Rattle.outcomes.specs.Refusal.{code_of};
 ghost use Rattle.fxtable.specs.Domains.{is_width};
 ghost use Rattle.rules.specs.Answers.{bad_rule};
 ghost use Rattle.rules.specs.Evaluate.{fixnum, result_of};
@@ -79,13 +78,13 @@ pub fn evaluated_call(answer: Answer, p: usize) -> Result<(i64, usize), Refused>
 
 // The answer for bytes that are no rule, or inputs that are not sixteen.
 #[tactic(auto, unfolding(rules::specs::Answers::bad_rule))]
-pub fn bad_rule(refusal: Refusal, offset: usize) -> RuleAnswer
-    ensures { result ≡ bad_rule (code_of refusal) offset }
+pub fn bad_rule(refusal: u64, offset: u64) -> RuleAnswer
+    ensures { result ≡ bad_rule refusal offset }
 {
     RuleAnswer {
-        refusal: u64::from(refusal),
+        refusal,
         place: 0,
-        offset: offset as u64,
+        offset,
         value: 0,
     }
 }

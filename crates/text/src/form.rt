@@ -31,7 +31,7 @@ pub fn byte_at(text: &[u8], i: usize) -> u8
     if i < text.len() { text[i] } else { 0 }
 }
 
-// The base that a letter is after #, or 0, which has no digits: a number and no option, since the definition `letter_base` is one.
+// The base that a letter is after #, or 0: no byte is a digit below 0, so that the text is no integer. An option would be turned into it at once.
 fn letter_base(c: u8) -> u64
     ensures { result ≡ letter_base c }
 {

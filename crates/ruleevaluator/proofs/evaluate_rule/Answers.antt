@@ -1,6 +1,8 @@
 -- `ruleevaluator::evaluate_rule` meets its contract. Assumes nothing.
-use mathlib.Core.Path.{◌∙◌}
+use Prim.Native.Nat.{ℕ}
+use mathlib.Core.Path.{ap, ◌∙◌}
 use Rattle.outcomes.specs.Refusal.{code_of}
+use Rattle.rules.specs.Answers.{bad_rule}
 use Rattle.rulevalues.proofs.AnswerLaws.{runs-at-width, rule-evaluated, rule-refused}
 use Rattle.ruleevaluator.proofs.evaluate_rule.Goals as goal
 
@@ -16,4 +18,7 @@ returns-in-Ok c =
 
 pub returns-in-Err : goal.returns-in-Err
 unfolding code_of
-returns-in-Err c = c.bad_rule.ensures ∙ rule-refused c.args.rule.now c.args.inputs.now _ c.in-Err.ensures.rule_read
+returns-in-Err c =
+    c.bad_rule.ensures
+    ∙ ap (λ (k : ℕ). bad_rule k c.in-Err.offence.offset) c.into.ensures
+    ∙ rule-refused c.args.rule.now c.args.inputs.now _ c.in-Err.ensures.rule_read
