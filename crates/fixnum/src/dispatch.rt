@@ -1,7 +1,6 @@
 // The operation of a code, on the arguments of a call that no stage has refused.
 ghost use Rattle.std.specs.Prelude.{◌≡◌, ◌≤◌};
 ghost use Rattle.fxtable.specs.Calls.{answer, counted, outcome};
-ghost use Rattle.fxtable.specs.Inner.{Accepted};
 
 use fxarith::arithmetic::arithmetic;
 use fxarith::carry::carry;
@@ -13,45 +12,45 @@ use fxbits::fields::fields;
 use fxbits::logical::logical;
 use fxbits::shifts::shift;
 use fxtable::answer::Answer;
+use fxtable::call::Call;
 
 // By halves, so that few comparisons find a code. The `match` over codes is within the families.
 #[inline(always)]
-pub fn operate(width: u64, code: u64, args: [i64; 4], count: u64) -> Answer
-    requires accepted { Accepted width code args count }
-    requires le_code { (1 ≤ code) × (code ≤ 41) }
-    ensures { result ≡ answer (outcome width code (counted args count)) }
+pub fn operate(call: Call) -> Answer
+    requires { (1 ≤ call.code) × (call.code ≤ 41) }
+    ensures { result ≡ answer (outcome call.width call.code (counted call.args call.count)) }
 {
-    if code <= 15 {
-        if code <= 10 {
-            if code <= 5 {
-                compare(width, code, args, count)
+    if call.code <= 15 {
+        if call.code <= 10 {
+            if call.code <= 5 {
+                compare(call)
             } else {
-                predicate(width, code, args, count)
+                predicate(call)
             }
-        } else if code <= 12 {
-            extreme(width, code, args, count)
+        } else if call.code <= 12 {
+            extreme(call)
         } else {
-            arithmetic(width, code, args, count)
+            arithmetic(call)
         }
-    } else if code <= 29 {
-        if code <= 24 {
-            if code <= 21 {
-                divide(width, code, args, count)
+    } else if call.code <= 29 {
+        if call.code <= 24 {
+            if call.code <= 21 {
+                divide(call)
             } else {
-                carry(width, code, args, count)
+                carry(call)
             }
         } else {
-            logical(width, code, args, count)
+            logical(call)
         }
-    } else if code <= 34 {
-        if code <= 32 {
-            counts(width, code, args, count)
+    } else if call.code <= 34 {
+        if call.code <= 32 {
+            counts(call)
         } else {
-            bit(width, code, args, count)
+            bit(call)
         }
-    } else if 37 <= code && code <= 39 {
-        shift(width, code, args, count)
+    } else if 37 <= call.code && call.code <= 39 {
+        shift(call)
     } else {
-        fields(width, code, args, count)
+        fields(call)
     }
 }

@@ -11,6 +11,7 @@ use dispatch::operate;
 use fxstages::domains::first_outside;
 use fxstages::fixnums::first_not_fixnum;
 use fxtable::answer::{Answer, refuse};
+use fxtable::call::Call;
 use fxtable::table::{is_code, is_count};
 use fxtable::width::is_width;
 use outcomes::refusal::Refusal;
@@ -38,5 +39,10 @@ pub fn call(width: u64, code: u64, args: [i64; 4], count: u64) -> Answer
     if place != 0 {
         return refuse(Refusal::Domain, place);
     }
-    operate(width, code, args, count)
+    operate(Call {
+        width,
+        code,
+        args,
+        count,
+    })
 }

@@ -4,11 +4,11 @@ ghost use Rattle.outcomes.specs.Refusal.{code_of};
 ghost use Rattle.fxtable.specs.Domains.{is_width};
 ghost use Rattle.fxtable.specs.Calls.{answer, counted, outcome};
 ghost use Rattle.fxtable.specs.Calls as calls;
-ghost use Rattle.fxtable.specs.Inner.{Accepted};
 ghost use Rattle.fxarith.specs.Held.{Held};
 
 use fxstages::overflow::{checked, exact};
 use fxtable::answer::{Answer, done, refuse};
+use fxtable::call::Call;
 use outcomes::refusal::Refusal;
 use widewords::double::Double;
 use widewords::parts::{high_part, low_part};
@@ -30,49 +30,48 @@ fn without_carry(overflow: Refusal, width: u64, s: Double) -> Answer
 
 // fx+
 #[inline(always)]
-pub fn add(width: u64, args: [i64; 4], count: u64) -> Answer
-    requires { Accepted width 13 args count }
-    ensures { result ≡ answer (outcome width 13 (counted args count)) }
+pub fn add(call: Call) -> Answer
+    requires { call.code ≡ 13 }
+    ensures { result ≡ answer (outcome call.width call.code (counted call.args call.count)) }
 {
-    let x = args[0];
-    let y = args[1];
-    without_carry(Refusal::Overflow, width, sum(x, y, 0))
+    let x = call.args[0];
+    let y = call.args[1];
+    without_carry(Refusal::Overflow, call.width, sum(x, y, 0))
 }
 
 // fx*
 #[inline(always)]
-pub fn multiply(width: u64, args: [i64; 4], count: u64) -> Answer
-    requires { Accepted width 14 args count }
-    ensures { result ≡ answer (outcome width 14 (counted args count)) }
+pub fn multiply(call: Call) -> Answer
+    requires { call.code ≡ 14 }
+    ensures { result ≡ answer (outcome call.width call.code (counted call.args call.count)) }
 {
-    let x = args[0];
-    let y = args[1];
-    exact(Refusal::Overflow, width, product(x, y))
+    let x = call.args[0];
+    let y = call.args[1];
+    exact(Refusal::Overflow, call.width, product(x, y))
 }
 
 // fx-, of one argument or two
 #[inline(always)]
-pub fn subtract(width: u64, args: [i64; 4], count: u64) -> Answer
-    requires { Accepted width 15 args count }
-    ensures { result ≡ answer (outcome width 15 (counted args count)) }
+pub fn subtract(call: Call) -> Answer
+    requires { call.code ≡ 15 }
+    ensures { result ≡ answer (outcome call.width call.code (counted call.args call.count)) }
 {
-    let x = args[0];
-    if count == 1 {
-        return checked(Refusal::Domain, width, !is_negative(x), absolute(x), 0);
+    let x = call.args[0];
+    if call.count == 1 {
+        return checked(Refusal::Domain, call.width, !is_negative(x), absolute(x), 0);
     }
-    let y = args[1];
-    without_carry(Refusal::Domain, width, difference(x, y, 0))
+    let y = call.args[1];
+    without_carry(Refusal::Domain, call.width, difference(x, y, 0))
 }
 
 #[inline(always)]
-pub fn arithmetic(width: u64, code: u64, args: [i64; 4], count: u64) -> Answer
-    requires accepted { Accepted width code args count }
-    requires le_code { (13 ≤ code) × (code ≤ 15) }
-    ensures { result ≡ answer (outcome width code (counted args count)) }
+pub fn arithmetic(call: Call) -> Answer
+    requires { (13 ≤ call.code) × (call.code ≤ 15) }
+    ensures { result ≡ answer (outcome call.width call.code (counted call.args call.count)) }
 {
-    match code {
-        13 => add(width, args, count),
-        14 => multiply(width, args, count),
-        _ => subtract(width, args, count),
+    match call.code {
+        13 => add(call),
+        14 => multiply(call),
+        _ => subtract(call),
     }
 }

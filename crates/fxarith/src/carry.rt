@@ -4,10 +4,10 @@ ghost use Rattle.outcomes.specs.Outcome as outcomes;
 ghost use Rattle.fxtable.specs.Domains.{is_width};
 ghost use Rattle.fxtable.specs.Operations.{parts_of};
 ghost use Rattle.fxtable.specs.Calls.{answer, counted, outcome};
-ghost use Rattle.fxtable.specs.Inner.{Accepted};
 ghost use Rattle.fxarith.specs.Held.{Held};
 
 use fxtable::answer::{Answer, done};
+use fxtable::call::Call;
 use widewords::double::Double;
 use widewords::parts::{high_part, low_part};
 use widewords::sums::{difference, product_and, sum};
@@ -21,17 +21,16 @@ fn parts(width: u64, s: Double) -> Answer
 
 // fx+/carry fx-/carry fx*/carry
 #[inline(always)]
-pub fn carry(width: u64, code: u64, args: [i64; 4], count: u64) -> Answer
-    requires accepted { Accepted width code args count }
-    requires le_code { (22 ≤ code) × (code ≤ 24) }
-    ensures { result ≡ answer (outcome width code (counted args count)) }
+pub fn carry(call: Call) -> Answer
+    requires { (22 ≤ call.code) × (call.code ≤ 24) }
+    ensures { result ≡ answer (outcome call.width call.code (counted call.args call.count)) }
 {
-    let x = args[0];
-    let y = args[1];
-    let z = args[2];
-    match code {
-        22 => parts(width, sum(x, y, z)),
-        23 => parts(width, difference(x, y, z)),
-        _ => parts(width, product_and(x, y, z)),
+    let x = call.args[0];
+    let y = call.args[1];
+    let z = call.args[2];
+    match call.code {
+        22 => parts(call.width, sum(x, y, z)),
+        23 => parts(call.width, difference(x, y, z)),
+        _ => parts(call.width, product_and(x, y, z)),
     }
 }

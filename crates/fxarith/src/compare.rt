@@ -1,40 +1,39 @@
 // Codes 1 to 12: comparisons of arguments with the next, predicates of one argument, the largest and the smallest.
 ghost use Rattle.std.specs.Prelude.{◌≡◌, ◌≤◌};
 ghost use Rattle.fxtable.specs.Calls.{answer, counted, outcome};
-ghost use Rattle.fxtable.specs.Inner.{Accepted};
 
 use super::chain::chain;
 use fxstages::fold::fold_all;
 use fxtable::answer::{Answer, done, question};
+use fxtable::call::Call;
 use words::sign::absolute;
 
 // fx=? fx>? fx<? fx>=? fx<=?
 #[tactic(auto, using(crate::proofs::CountLaws::four_at_most))]
 #[inline(always)]
-pub fn compare(width: u64, code: u64, args: [i64; 4], count: u64) -> Answer
-    requires accepted { Accepted width code args count }
-    requires le_code { (1 ≤ code) × (code ≤ 5) }
-    ensures { result ≡ answer (outcome width code (counted args count)) }
+pub fn compare(call: Call) -> Answer
+    requires { (1 ≤ call.code) × (call.code ≤ 5) }
+    ensures { result ≡ answer (outcome call.width call.code (counted call.args call.count)) }
 {
-    match code {
-        1 => question(chain(|x, y| x == y, args, count)),
-        2 => question(chain(|x, y| x > y, args, count)),
-        3 => question(chain(|x, y| x < y, args, count)),
-        4 => question(chain(|x, y| x >= y, args, count)),
-        _ => question(chain(|x, y| x <= y, args, count)),
+    let args = call.slots();
+    match call.code {
+        1 => question(chain(|x, y| x == y, args, call.count)),
+        2 => question(chain(|x, y| x > y, args, call.count)),
+        3 => question(chain(|x, y| x < y, args, call.count)),
+        4 => question(chain(|x, y| x >= y, args, call.count)),
+        _ => question(chain(|x, y| x <= y, args, call.count)),
     }
 }
 
 // fxzero? fxpositive? fxnegative? fxodd? fxeven?
 #[inline(always)]
-pub fn predicate(width: u64, code: u64, args: [i64; 4], count: u64) -> Answer
-    requires accepted { Accepted width code args count }
-    requires le_code { (6 ≤ code) × (code ≤ 10) }
-    ensures { result ≡ answer (outcome width code (counted args count)) }
+pub fn predicate(call: Call) -> Answer
+    requires { (6 ≤ call.code) × (call.code ≤ 10) }
+    ensures { result ≡ answer (outcome call.width call.code (counted call.args call.count)) }
 {
-    let x = args[0];
+    let x = call.args[0];
     let n = absolute(x);
-    match code {
+    match call.code {
         6 => question(n == 0),
         7 => question(x > 0),
         8 => question(x < 0),
@@ -46,15 +45,15 @@ pub fn predicate(width: u64, code: u64, args: [i64; 4], count: u64) -> Answer
 // fxmax fxmin
 #[tactic(auto, using(crate::proofs::CountLaws::four_at_most))]
 #[inline(always)]
-pub fn extreme(width: u64, code: u64, args: [i64; 4], count: u64) -> Answer
-    requires accepted { Accepted width code args count }
-    requires le_code { (11 ≤ code) × (code ≤ 12) }
-    ensures { result ≡ answer (outcome width code (counted args count)) }
+pub fn extreme(call: Call) -> Answer
+    requires { (11 ≤ call.code) × (call.code ≤ 12) }
+    ensures { result ≡ answer (outcome call.width call.code (counted call.args call.count)) }
 {
-    let x = args[0];
-    if code == 11 {
-        done(fold_all(|x, y| x.max(y), x, args, count), 0)
+    let x = call.args[0];
+    let args = call.slots();
+    if call.code == 11 {
+        done(fold_all(|x, y| x.max(y), x, args, call.count), 0)
     } else {
-        done(fold_all(|x, y| x.min(y), x, args, count), 0)
+        done(fold_all(|x, y| x.min(y), x, args, call.count), 0)
     }
 }

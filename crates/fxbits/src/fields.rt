@@ -2,73 +2,72 @@
 // start is argument 1 and its end argument 2.
 ghost use Rattle.std.specs.Prelude.{◌≤◌, ◌<◌, ◌≡◌};
 ghost use Rattle.fxtable.specs.Calls.{answer, counted, outcome};
-ghost use Rattle.fxtable.specs.Inner.{Accepted};
 
 use fxtable::answer::{Answer, done};
+use fxtable::call::Call;
 use words::field;
 use words::rotation::rotate_bit_field;
 use words::sign::absolute;
 
 // fxbit-field
-pub fn taken(width: u64, args: [i64; 4], count: u64) -> Answer
-    requires { Accepted width 35 args count }
-    ensures { result ≡ answer (outcome width 35 (counted args count)) }
+pub fn taken(call: Call) -> Answer
+    requires { call.code ≡ 35 }
+    ensures { result ≡ answer (outcome call.width call.code (counted call.args call.count)) }
 {
-    let x = args[0];
-    let start = absolute(args[1]);
-    let end = absolute(args[2]);
+    let x = call.args[0];
+    let start = absolute(call.args[1]);
+    let end = absolute(call.args[2]);
     done(field::bit_field(x, start, end) as i64, 0)
 }
 
 // fxcopy-bit-field
 #[inline(always)]
-pub fn copied(width: u64, args: [i64; 4], count: u64) -> Answer
-    requires { Accepted width 36 args count }
-    ensures { result ≡ answer (outcome width 36 (counted args count)) }
+pub fn copied(call: Call) -> Answer
+    requires { call.code ≡ 36 }
+    ensures { result ≡ answer (outcome call.width call.code (counted call.args call.count)) }
 {
-    let x = args[0];
-    let start = absolute(args[1]);
-    let end = absolute(args[2]);
-    let source = field::low_bits(args[3], end - start);
+    let x = call.args[0];
+    let start = absolute(call.args[1]);
+    let end = absolute(call.args[2]);
+    let source = field::low_bits(call.args[3], end - start);
     done(field::copy_bit_field(x, start, end, source), 0)
 }
 
 // fxrotate-bit-field
 #[inline(always)]
-pub fn rotated(width: u64, args: [i64; 4], count: u64) -> Answer
-    requires { Accepted width 40 args count }
-    ensures { result ≡ answer (outcome width 40 (counted args count)) }
+pub fn rotated(call: Call) -> Answer
+    requires { call.code ≡ 40 }
+    ensures { result ≡ answer (outcome call.width call.code (counted call.args call.count)) }
 {
-    let x = args[0];
-    let start = absolute(args[1]);
-    let end = absolute(args[2]);
-    let c = absolute(args[3]);
+    let x = call.args[0];
+    let start = absolute(call.args[1]);
+    let end = absolute(call.args[2]);
+    let c = absolute(call.args[3]);
     done(rotate_bit_field(x, start, end, c), 0)
 }
 
 // fxreverse-bit-field, which takes the field as a number, and puts the new one back.
 #[inline(always)]
-pub fn reversed(width: u64, args: [i64; 4], count: u64) -> Answer
-    requires { Accepted width 41 args count }
-    ensures { result ≡ answer (outcome width 41 (counted args count)) }
+pub fn reversed(call: Call) -> Answer
+    requires { call.code ≡ 41 }
+    ensures { result ≡ answer (outcome call.width call.code (counted call.args call.count)) }
 {
-    let x = args[0];
-    let start = absolute(args[1]);
-    let end = absolute(args[2]);
+    let x = call.args[0];
+    let start = absolute(call.args[1]);
+    let end = absolute(call.args[2]);
     let turned = field::reverse(field::bit_field(x, start, end), end - start);
     done(field::copy_bit_field(x, start, end, turned), 0)
 }
 
 #[inline(always)]
-pub fn fields(width: u64, code: u64, args: [i64; 4], count: u64) -> Answer
-    requires accepted { Accepted width code args count }
-    requires le_code { (35 ≤ code) × (code ≤ 41) × (36 < code → 40 ≤ code) }
-    ensures { result ≡ answer (outcome width code (counted args count)) }
+pub fn fields(call: Call) -> Answer
+    requires { (35 ≤ call.code) × (call.code ≤ 41) × (36 < call.code → 40 ≤ call.code) }
+    ensures { result ≡ answer (outcome call.width call.code (counted call.args call.count)) }
 {
-    match code {
-        35 => taken(width, args, count),
-        36 => copied(width, args, count),
-        40 => rotated(width, args, count),
-        _ => reversed(width, args, count),
+    match call.code {
+        35 => taken(call),
+        36 => copied(call),
+        40 => rotated(call),
+        _ => reversed(call),
     }
 }

@@ -4,10 +4,10 @@ ghost use Rattle.bits.specs.Shift.{shift_left, shift_right};
 ghost use Rattle.fxtable.specs.Domains.{is_width};
 ghost use Rattle.fxtable.specs.Calls.{answer, counted, outcome};
 ghost use Rattle.fxtable.specs.Calls as calls;
-ghost use Rattle.fxtable.specs.Inner.{Accepted};
 
 use fxstages::overflow::exact;
 use fxtable::answer::{Answer, done};
+use fxtable::call::Call;
 use outcomes::refusal::Refusal;
 use widewords::wide::multiply;
 use words::sign::{absolute, from_magnitude, is_negative, magnitude, power};
@@ -35,48 +35,47 @@ fn right(x: i64, k: u64) -> i64
 
 // fxarithmetic-shift, which goes to the right where the distance is negative.
 #[inline(always)]
-pub fn shift_either(width: u64, args: [i64; 4], count: u64) -> Answer
-    requires { Accepted width 37 args count }
-    ensures { result ≡ answer (outcome width 37 (counted args count)) }
+pub fn shift_either(call: Call) -> Answer
+    requires { call.code ≡ 37 }
+    ensures { result ≡ answer (outcome call.width call.code (counted call.args call.count)) }
 {
-    let x = args[0];
-    let distance = args[1];
+    let x = call.args[0];
+    let distance = call.args[1];
     let k = absolute(distance);
     if is_negative(distance) {
         done(right(x, k), 0)
     } else {
-        left(width, x, k)
+        left(call.width, x, k)
     }
 }
 
 // fxarithmetic-shift-left
 #[inline(always)]
-pub fn shift_left(width: u64, args: [i64; 4], count: u64) -> Answer
-    requires { Accepted width 38 args count }
-    ensures { result ≡ answer (outcome width 38 (counted args count)) }
+pub fn shift_left(call: Call) -> Answer
+    requires { call.code ≡ 38 }
+    ensures { result ≡ answer (outcome call.width call.code (counted call.args call.count)) }
 {
-    let x = args[0];
-    left(width, x, absolute(args[1]))
+    let x = call.args[0];
+    left(call.width, x, absolute(call.args[1]))
 }
 
 // fxarithmetic-shift-right
-pub fn shift_right(width: u64, args: [i64; 4], count: u64) -> Answer
-    requires { Accepted width 39 args count }
-    ensures { result ≡ answer (outcome width 39 (counted args count)) }
+pub fn shift_right(call: Call) -> Answer
+    requires { call.code ≡ 39 }
+    ensures { result ≡ answer (outcome call.width call.code (counted call.args call.count)) }
 {
-    let x = args[0];
-    done(right(x, absolute(args[1])), 0)
+    let x = call.args[0];
+    done(right(x, absolute(call.args[1])), 0)
 }
 
 #[inline(always)]
-pub fn shift(width: u64, code: u64, args: [i64; 4], count: u64) -> Answer
-    requires accepted { Accepted width code args count }
-    requires le_code { (37 ≤ code) × (code ≤ 39) }
-    ensures { result ≡ answer (outcome width code (counted args count)) }
+pub fn shift(call: Call) -> Answer
+    requires { (37 ≤ call.code) × (call.code ≤ 39) }
+    ensures { result ≡ answer (outcome call.width call.code (counted call.args call.count)) }
 {
-    match code {
-        37 => shift_either(width, args, count),
-        38 => shift_left(width, args, count),
-        _ => shift_right(width, args, count),
+    match call.code {
+        37 => shift_either(call),
+        38 => shift_left(call),
+        _ => shift_right(call),
     }
 }

@@ -77,11 +77,3 @@ module _ {domains : List Domain} {overflow w code : ℕ} {xs : List ℤ} {n : �
   carry-outcome f e a =
       let h = arity-row e a in
       by_row w code (counted xs n) e (rw (arg-exactly xs 3 n 0 h (lit< tt), arg-exactly xs 3 n 1 h (lit< tt), arg-exactly xs 3 n 2 h (lit< tt)))
-
--- ---- a call whose code is known to be a number, as in an arm of a `match`
-
-pub accepted-at : {w code k n : ℕ} {xs : List ℤ} → code ≡ k → Accepted w code xs n → Accepted w k xs n
-accepted-at {w} {n} {xs} e a = subst (λ (k : ℕ). Accepted w k xs n) e a
-
-pub outcome-at : {code k : ℕ} (w : ℕ) (xs : List ℤ) → code ≡ k → answer (outcome w k xs) ≡ answer (outcome w code xs)
-outcome-at w xs e = ap (λ (k : ℕ). answer (outcome w k xs)) (sym e)

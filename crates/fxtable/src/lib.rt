@@ -2,6 +2,7 @@
 #![tactic(auto)]
 
 pub mod answer;
+pub mod call;
 pub mod domains;
 pub mod table;
 pub mod width;

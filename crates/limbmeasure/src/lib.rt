@@ -6,10 +6,12 @@ ghost use Rattle.std.specs.Prelude.{◌≡◌, ℕ, ℤ, ◌*◌, ◌≤◌, ◌
 ghost use Rattle.bits.specs.Testbit.{bit_length};
 ghost use Rattle.bits.specs.Logical.{bitwise};
 ghost use Rattle.limbwords.specs.Value.{value, limb_count, is_shortest};
-ghost use Rattle.limbwords.specs.Results.{limb_at, logic_of, meaning, Proper};
+ghost use Rattle.limbwords.specs.Results.{limb_at, logic_of};
+ghost use Rattle.limbwords.specs.Described.{described};
 ghost use Rattle.limbmeasure.specs.Padding.{continued};
 
 use limbwords::any::limb_of;
+use limbwords::described::Described;
 use limbwords::logical::{common_limb, logical_limb};
 use limbwords::result::{Logic, Operation};
 
@@ -78,19 +80,17 @@ fn measure_logical(by: Logic, x: &[u32], y: &[u32], enough: usize) -> usize
 }
 
 // The length of any operation's result; one limb is the least.
-pub fn measure(operation: Operation, x: &[u32], y: &[u32], z: &[u32], enough: usize) -> usize
-    requires x_nonzero { 0 < length x.now }
-    requires y_nonzero { 0 < length y.now }
-    requires z_nonzero { 0 < length z.now }
-    requires proper { Proper operation × ((0 < enough) × (enough < 2 ^ 32)) }
-    requires z_bound { bit_length (meaning operation (value x.now) (value y.now) (value z.now)) < 32 * enough }
-    ensures { result ≡ limb_count (meaning operation (value x.now) (value y.now) (value z.now)) }
+#[tactic(auto, unfolding(limbwords::specs::Results::meaning))]
+pub fn measure(d: &Described, enough: usize) -> usize
+    requires enough_bounds { (0 < enough) × (enough < 2 ^ 32) }
+    requires length_bound { bit_length (described d.now) < 32 * enough }
+    ensures { result ≡ limb_count (described d.now) }
 {
     if enough == 1 {
         return 1;
     }
-    match operation {
-        Operation::Logical(by) => measure_logical(by, x, y, enough),
-        _ => measure_by(|j| limb_of(operation, x, y, z, j), enough),
+    match d.operation {
+        Operation::Logical(by) => measure_logical(by, d.x, d.y, enough),
+        _ => measure_by(|j| limb_of(d, j), enough),
     }
 }

@@ -26,6 +26,7 @@ use limbstages::field::run_field;
 use limbstages::numbers::{Field, NewBit, Rotation};
 use limbstages::run::{run, store, store_limbs};
 use limbstages::shift::{shift_left, shift_right};
+use limbwords::described::Described;
 use limbwords::limb::window;
 use limbwords::result::{Logic, Operation};
 use limbwords::signed::{word, word_bits};
@@ -39,7 +40,13 @@ fn combine(by: Logic, x: &[u32], y: &[u32], out: &mut [u32], first: u64) -> Resu
 {
     check_operands(x, y)?;
     let enough = x.len().max(y.len());
-    run(Operation::Logical(by), x, y, x, enough, out, first)
+    let d = Described {
+        operation: Operation::Logical(by),
+        x,
+        y,
+        z: x,
+    };
+    run(&d, enough, out, first)
 }
 
 // bitwise-not: the complement has as many limbs as its operand
@@ -47,7 +54,13 @@ pub fn bitwise_not(x: &[u32], out: &mut [u32], first: u64) -> Result<usize, Refu
     ensures { Writes (not_outcome x.now) out.old first (written_of result) out.new }
 {
     check_operand(x)?;
-    store(Operation::Logical(Logic::Not), x, x, x, x.len(), out, first)
+    let d = Described {
+        operation: Operation::Logical(Logic::Not),
+        x,
+        y: x,
+        z: x,
+    };
+    store(&d, x.len(), out, first)
 }
 
 // bitwise-and of two
@@ -87,7 +100,13 @@ pub fn bitwise_if(
     check_operands(x, y)?;
     check_operand(z)?;
     let enough = x.len().max(y.len()).max(z.len());
-    run(Operation::If, x, y, z, enough, out, first)
+    let d = Described {
+        operation: Operation::If,
+        x,
+        y,
+        z,
+    };
+    run(&d, enough, out, first)
 }
 
 // bitwise-copy-bit: the bit at a position becomes 0 or 1
@@ -103,15 +122,13 @@ pub fn bitwise_copy_bit(
     let NewBit { position, bit } = check_new_bit(x, position, bit)?;
     let start = position;
     let end = position + 1;
-    let field = Field { start, end };
-    run_field(
-        Operation::CopyField { start, end },
+    let d = Described {
+        operation: Operation::CopyField { start, end },
         x,
-        &[bit],
-        field,
-        out,
-        first,
-    )
+        y: &[bit],
+        z: x,
+    };
+    run_field(&d, Field { start, end }, out, first)
 }
 
 // bitwise-bit-field: the field as a number
@@ -126,7 +143,13 @@ pub fn bitwise_bit_field(
 {
     let Field { start, end } = check_field(x, x, start, end)?;
     let enough = ((end - start) / 32) as usize + 1;
-    run(Operation::Field { start, end }, x, x, x, enough, out, first)
+    let d = Described {
+        operation: Operation::Field { start, end },
+        x,
+        y: x,
+        z: x,
+    };
+    run(&d, enough, out, first)
 }
 
 // bitwise-copy-bit-field: the field gets the low bits of y
@@ -142,7 +165,13 @@ pub fn bitwise_copy_bit_field(
 {
     let field = check_field(x, y, start, end)?;
     let Field { start, end } = field;
-    run_field(Operation::CopyField { start, end }, x, y, field, out, first)
+    let d = Described {
+        operation: Operation::CopyField { start, end },
+        x,
+        y,
+        z: x,
+    };
+    run_field(&d, field, out, first)
 }
 
 // bitwise-arithmetic-shift: to the left by a positive distance, to the right by a negative one
@@ -203,14 +232,13 @@ pub fn bitwise_rotate(
     let Rotation { field, count } = check_rotation(x, start, end, count)?;
     let Field { start, end } = field;
     let by = reduced(count, end - start);
-    run_field(
-        Operation::Rotate { start, end, by },
+    let d = Described {
+        operation: Operation::Rotate { start, end, by },
         x,
-        x,
-        field,
-        out,
-        first,
-    )
+        y: x,
+        z: x,
+    };
+    run_field(&d, field, out, first)
 }
 
 // bitwise-reverse-bit-field
@@ -225,7 +253,13 @@ pub fn bitwise_reverse(
 {
     let field = check_field(x, x, start, end)?;
     let Field { start, end } = field;
-    run_field(Operation::Reverse { start, end }, x, x, field, out, first)
+    let d = Described {
+        operation: Operation::Reverse { start, end },
+        x,
+        y: x,
+        z: x,
+    };
+    run_field(&d, field, out, first)
 }
 
 // bitwise-bit-count

@@ -1,13 +1,14 @@
 // Limbs put into a part of the output buffer, as many as the part has.
 ghost use Rattle.std.specs.Prelude.{◌+◌, ◌*◌, ◌<◌, ◌≤◌, ◌^◌, length};
 ghost use Rattle.limbwords.specs.Value.{value};
-ghost use Rattle.limbwords.specs.Results.{bits_from, limb_at, meaning, Proper};
+ghost use Rattle.limbwords.specs.Results.{bits_from, limb_at};
+ghost use Rattle.limbwords.specs.Described.{described};
 ghost use Rattle.outcomes.specs.Puts.{Puts};
 
 use super::each::put_each;
 use limbwords::any::limb_of;
+use limbwords::described::Described;
 use limbwords::limb::{join, window};
-use limbwords::result::Operation;
 
 // Windows of x from bit k of limb i on, each joined from two limbs of x; where k is 0, they are limbs of x.
 fn put_inner(x: &[u32], i: usize, k: u64, part: &mut [u32])
@@ -44,18 +45,9 @@ pub fn put_windows(x: &[u32], at: u64, part: &mut [u32])
 }
 
 // The limbs of any operation's result from one on, limb by limb.
-pub fn put_limbs(
-    operation: Operation,
-    x: &[u32],
-    y: &[u32],
-    z: &[u32],
-    from: usize,
-    part: &mut [u32],
-)
-    requires x_nonzero { (0 < length x.now) × ((0 < length y.now) × (0 < length z.now)) }
-    requires proper { Proper operation }
+pub fn put_limbs(d: &Described, from: usize, part: &mut [u32])
     requires part_bound { from + length part.old < 2 ^ 32 }
-    ensures { Puts 0 (λ j. limb_at (meaning operation (value x.now) (value y.now) (value z.now)) (from + j)) part.old part.new 0 (length part.old) }
+    ensures { Puts 0 (λ j. limb_at (described d.now) (from + j)) part.old part.new 0 (length part.old) }
 {
-    put_each(|j| limb_of(operation, x, y, z, from + j), part);
+    put_each(|j| limb_of(d, from + j), part);
 }

@@ -6,7 +6,8 @@ use mathlib.Core.Bool.{Bool, true, false, not}
 use mathlib.Core.List.{List}
 use lib.Dec.{leb, lit<}
 use lib.IntN.{ℤ}
-use lib.ListN.{length, take, drop, get_or}
+use lib.ListN.{length, take, drop, get_or, length-drop}
+use lib.Seq.{length-take-le}
 use borrow.Author.Tests.{le-leb, leb-true, leb-false, not-true, not-false}
 use borrow.Rule.Slice.PartMut.{put_mid}
 use Rattle.std.specs.Prelude.{Result, Ok, Err, IsErrAnd}
@@ -84,14 +85,22 @@ module _ (z : ℤ) (out : List ℕ) (first : ℕ) {n : ℕ} (counted : n ≡ lim
       from-stored (refuse 8) (fitted_short (shortest z) out first (omega (arith, length-shortest z))) refl refl
 
   -- the borrowed part has come back with the limbs in it
-  pub limbs-stored : n ≤ length out - first → (part : List ℕ) → Puts 0 (limb_at z) (take (length out - first) (drop first out)) part 0 n
-      → Writes (done z) out first (written_of (Ok n)) (put_mid first (length out - first) out part)
+  pub limbs-stored : (k : ℕ) → n ≤ k → k ≤ length out - first → (part : List ℕ) → Puts 0 (limb_at z) (take k (drop first out)) part 0 n
+      → Writes (done z) out first (written_of (Ok n)) (put_mid first k out part)
   unfolding stored map_done written_of refusal_of count_of afterwards shortest
-  limbs-stored room part w =
-      let long = length-shortest z ∙ sym counted in
+  limbs-stored k long room part w =
+      let counts = length-shortest z ∙ sym counted in
       from-stored (done (shortest z)) (fitted-enough (shortest z) out first (omega arith))
-      (ap (λ (k : ℕ). record { refusal = 0; length = k }) (sym long))
-      (laid-part (shortest z) out part first n long (λ j l. get_d-limbs_of (limb_count z) z j (omega arith)) room w)
+      (ap (λ (k : ℕ). record { refusal = 0; length = k }) (sym counts))
+      (laid-part (shortest z) out part first n counts (λ j l. get_d-limbs_of (limb_count z) z j (omega arith)) k long room w)
+
+  -- where they are the whole part
+  pub limbs-filled : n ≤ length out - first → (part : List ℕ) → let b = take (first + n - first) (drop first out) in
+      Puts 0 (limb_at z) b part 0 (length b) → Writes (done z) out first (written_of (Ok n)) (put_mid first (first + n - first) out part)
+  limbs-filled room part w =
+      let size : length (take (first + n - first) (drop first out)) ≡ n =
+      length-take-le (first + n - first) (drop first out) (omega (arith, length-drop first out)) ∙ omega arith in
+      limbs-stored (first + n - first) (omega arith) (omega arith) part (rw size at w)
 
 -- ---- what was written
 

@@ -3,11 +3,11 @@ ghost use Rattle.std.specs.Prelude.{◌≡◌, ◌*◌, ◌-◌, ◌<◌, ◌^�
 ghost use Rattle.bits.specs.Testbit.{bit_length};
 ghost use Rattle.outcomes.specs.Outcome as outcome;
 ghost use Rattle.limbwords.specs.Value.{value, limb_count};
-ghost use Rattle.limbwords.specs.Results.{meaning, Proper};
+ghost use Rattle.limbwords.specs.Described.{described};
 ghost use Rattle.limbstages.specs.Buffer.{Writes, written_of};
 
 use limbmeasure::measure;
-use limbwords::result::Operation;
+use limbwords::described::Described;
 use limbwrite::write::{copy, write};
 use outcomes::refusal::Refusal;
 
@@ -21,27 +21,16 @@ fn has_capacity(size: usize, first: u64, n: usize) -> bool
 }
 
 // A measured result.
-pub fn store(
-    operation: Operation,
-    x: &[u32],
-    y: &[u32],
-    z: &[u32],
-    n: usize,
-    out: &mut [u32],
-    first: u64,
-) -> Result<usize, Refusal>
-    requires x_nonzero { 0 < length x.now }
-    requires y_nonzero { 0 < length y.now }
-    requires z_nonzero { 0 < length z.now }
-    requires proper { Proper operation × (n < 2 ^ 32) }
-    requires n_value { n ≡ limb_count (meaning operation (value x.now) (value y.now) (value z.now)) }
-    ensures { Writes (outcome.done (meaning operation (value x.now) (value y.now) (value z.now))) out.old first (written_of result) out.new }
+pub fn store(d: &Described, n: usize, out: &mut [u32], first: u64) -> Result<usize, Refusal>
+    requires n_bound { n < 2 ^ 32 }
+    requires n_value { n ≡ limb_count (described d.now) }
+    ensures { Writes (outcome.done (described d.now)) out.old first (written_of result) out.new }
 {
     if !has_capacity(out.len(), first, n) {
         return Err(Refusal::Capacity);
     }
     let from = first as usize;
-    write(operation, x, y, z, n, &mut out[from..]);
+    write(d, &mut out[from..from + n]);
     Ok(n)
 }
 
@@ -55,26 +44,15 @@ pub fn store_limbs(x: &[u32], count: usize, out: &mut [u32], first: u64) -> Resu
         return Err(Refusal::Capacity);
     }
     let at = first as usize;
-    copy(x, count, &mut out[at..]);
+    copy(x, &mut out[at..at + count]);
     Ok(count)
 }
 
-pub fn run(
-    operation: Operation,
-    x: &[u32],
-    y: &[u32],
-    z: &[u32],
-    enough: usize,
-    out: &mut [u32],
-    first: u64,
-) -> Result<usize, Refusal>
-    requires x_nonzero { 0 < length x.now }
-    requires y_nonzero { 0 < length y.now }
-    requires z_nonzero { 0 < length z.now }
-    requires proper { Proper operation × ((0 < enough) × (enough < 2 ^ 32)) }
-    requires z_bound { bit_length (meaning operation (value x.now) (value y.now) (value z.now)) < 32 * enough }
-    ensures { Writes (outcome.done (meaning operation (value x.now) (value y.now) (value z.now))) out.old first (written_of result) out.new }
+pub fn run(d: &Described, enough: usize, out: &mut [u32], first: u64) -> Result<usize, Refusal>
+    requires enough_bounds { (0 < enough) × (enough < 2 ^ 32) }
+    requires length_bound { bit_length (described d.now) < 32 * enough }
+    ensures { Writes (outcome.done (described d.now)) out.old first (written_of result) out.new }
 {
-    let n = measure(operation, x, y, z, enough);
-    store(operation, x, y, z, n, out, first)
+    let n = measure(d, enough);
+    store(d, n, out, first)
 }

@@ -9,6 +9,7 @@ ghost use Rattle.limbstages.specs.Stages.{is_operand, sized};
 use super::check::MOST_LIMBS;
 use super::run::{run, store};
 use limbmeasure::measure;
+use limbwords::described::Described;
 use limbwords::result::Operation;
 use outcomes::refusal::Refusal;
 
@@ -38,8 +39,13 @@ pub fn shift_right(x: &[u32], by: u64, out: &mut [u32], first: u64) -> Result<us
 {
     let distance = capped(by);
     let operation = Operation::ShiftRight { by: distance };
-    let enough = enough_right(x, distance);
-    run(operation, x, x, x, enough, out, first)
+    let d = Described {
+        operation,
+        x,
+        y: x,
+        z: x,
+    };
+    run(&d, enough_right(x, distance), out, first)
 }
 
 // A distance beyond the largest length moves everything but 0 past it.
@@ -49,10 +55,16 @@ pub fn shift_left(x: &[u32], by: u64, out: &mut [u32], first: u64) -> Result<usi
 {
     let distance = capped(by);
     let operation = Operation::ShiftLeft { by: distance };
+    let d = Described {
+        operation,
+        x,
+        y: x,
+        z: x,
+    };
     let enough = x.len() + (distance / 32) as usize + 1;
-    let n = measure(operation, x, x, x, enough);
+    let n = measure(&d, enough);
     if MOST_LIMBS < n {
         return Err(Refusal::Overflow);
     }
-    store(operation, x, x, x, n, out, first)
+    store(&d, n, out, first)
 }

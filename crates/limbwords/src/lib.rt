@@ -3,6 +3,7 @@
 #![tactic(auto)]
 
 pub mod any;
+pub mod described;
 pub mod field;
 pub mod limb;
 pub mod logical;

@@ -1,5 +1,4 @@
-// The description of a result: which operation, with which numbers. The operands are handed beside it, and an operation that
-// takes fewer than three gets its first one again.
+// Which operation a result is of, and with which numbers.
 // Not is of the first operand, whatever the second is.
 #[derive(Clone, Copy)]
 pub enum Logic {

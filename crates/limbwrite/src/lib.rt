@@ -1,4 +1,4 @@
-// The limbs of a described result, written into the part of an output buffer that it begins: a writer for each operation.
+// The limbs of a described result, written into a part of an output buffer: a writer for each operation.
 #![tactic(auto)]
 
 pub mod write;

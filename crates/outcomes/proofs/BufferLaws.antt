@@ -3,12 +3,13 @@ use Prim.Native.Nat.{ℕ, ◌+◌, ◌-◌, ◌≤◌, ◌<◌}
 use native.Mathlib.Omega.{arith}
 use mathlib.Core.Path.{◌≡◌, refl, sym, ap, ◌∙◌}
 use mathlib.Core.Bool.{Bool, true, false}
-use mathlib.Core.List.{List, ◌++◌, append-nil}
+use mathlib.Core.List.{List, ◌++◌, append_assoc}
 use lib.Dec.{leb}
-use lib.ListN.{length, take, drop, length-take, length-drop, length-append, drop_of_length-le}
+use lib.ListN.{length, take, drop, length-take, length-drop, length-append}
 use lib.Seq.{drop-drop, take_all, length-take-le, take-append_seam, drop-append_seam}
 use borrow.Author.Tests.{le-leb, lt-leb, leb-true, leb-false}
 use borrow.Rule.Slice.PartMut.{put_mid}
+use Rattle.std.proofs.lemmas.List.{drop-append-le, take-append-drop}
 use Rattle.outcomes.specs.Outcome.{Outcome, refused, done, refuse, guard, guard_at, refusal_of}
 use Rattle.outcomes.specs.Buffer.{capacity, laid, fitted, afterwards, count_of}
 use Rattle.outcomes.specs.Puts.{Puts}
@@ -87,14 +88,16 @@ module _ {A : Type 0} where
   part_length out first = ap length (whole_part out first) ∙ length-drop first out
 
   module _ {d : A} {f : ℕ → A} (xs out part : List A) (first n : ℕ) (long : length xs ≡ n) (each : (j : ℕ) → j < n → lib.ListN.get_or xs j d ≡ f j) where
-    pub laid-part : n ≤ length out - first → Puts d f (take (length out - first) (drop first out)) part 0 n
-        → put_mid first (length out - first) out part ≡ laid out first xs
+    pub laid-part : (k : ℕ) → n ≤ k → k ≤ length out - first → Puts d f (take k (drop first out)) part 0 n → put_mid first k out part ≡ laid out first xs
     unfolding laid
-    laid-part h w =
-        ap (λ (l : List A). take first out ++ (part ++ l)) (drop_of_length-le (drop first out) {i = length out - first} (omega (arith, length-drop first out)))
+    laid-part k h room w =
+        let rest = drop first out in
+        let long-part = length-take-le k rest (omega (arith, length-drop first out)) in
+        ap (λ (p : List A). take first out ++ (p ++ drop k rest)) (puts-list xs long each w (omega (arith, long-part)))
         ∙ ap (λ (l : List A). take first out ++ l)
-        (append-nil part
-        ∙ puts-list xs long each w (omega (arith, part_length out first))
-        ∙ ap (λ (l : List A). xs ++ drop n l) (whole_part out first)
-        ∙ ap (λ (l : List A). xs ++ l) (drop-drop n first out)
-        ∙ ap (λ (k : ℕ). xs ++ drop (first + k) out) (sym long))
+        (append_assoc xs (drop n (take k rest)) (drop k rest)
+        ∙ ap (λ (l : List A). xs ++ l)
+        (sym (drop-append-le n (take k rest) (drop k rest) (omega (arith, long-part)))
+        ∙ ap (drop n) (take-append-drop k rest)
+        ∙ drop-drop n first out
+        ∙ ap (λ (m : ℕ). drop (first + m) out) (sym long)))

@@ -79,9 +79,12 @@ returns-then-place-ne0-2 c =
     ∙ failed-each _ 5 _ (some-failed _ (λ e. c.if-place-ne0-2.true (c.first_outside-place.ensures ∙ e)))
     ∙ ap (refused 5) (sym c.first_outside-place.ensures)))
 
+pub invariant_of-operate : goal.invariant_of-operate
+invariant_of-operate c = record { accepted = accepts c }
+
 pub operate-requires : goal.operate-requires
-operate-requires c = record { accepted = accepts c; le_code = code-bounds _ (code_ok c.before.before.before.before.before.before) }
+operate-requires c = code-bounds _ (code_ok c.before.before.before.before.before.before.before)
 
 pub returns : goal.returns
 returns c =
-    c.operate.ensures ∙ sym (accepted c.args.width c.args.code c.args.args c.args.count (code_ok c.before.before.before.before.before.before.before) (accepts c.before))
+    c.operate.ensures ∙ sym (accepted c.args.width c.args.code c.args.args c.args.count (code_ok c.before.before.before.before.before.before.before.before) (accepts c.before.before))

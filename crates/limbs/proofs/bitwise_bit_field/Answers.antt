@@ -8,7 +8,7 @@ use Rattle.outcomes.specs.Outcome.{done}
 use Rattle.limbwords.specs.Value.{value}
 use Rattle.limbwords.specs.Results.{meaning, Proper}
 use Rattle.limbs.specs.Operations.{bit_field_outcome}
-use Rattle.limbstages.proofs.StageLaws.{operand-twice, operand_lengths}
+use Rattle.limbstages.proofs.StageLaws.{operand-twice, operand-length}
 use Rattle.limbs.proofs.CheckLaws.{LegalField, field-refused, field-legal}
 use Rattle.limbstages.proofs.WritesLaws.{writes_as, writes-exited}
 use Rattle.limbs.proofs.bitwise_bit_field.Goals as goal
@@ -18,13 +18,22 @@ legal-field : (c : In_ok-start) → LegalField c.args.x.now c.args.x.now c.args.
 legal-field c =
     (field-legal c.args.x.now c.args.x.now c.ranges.start c.ranges.end c.check_field.ensures c.in_ok-start.was).0
 
-pub run-requires : goal.run-requires
-unfolding meaning Proper
-run-requires c =
-    let l = legal-field (goal.at.run-requires c).In_ok-start in
+pub invariant_of-d : goal.invariant_of-d
+unfolding Proper
+invariant_of-d c =
+    let l = legal-field (goal.at.invariant_of-d c).In_ok-start in
     let last = l.last in
-    let x = (operand_lengths _ l.first).0 in
-    record { x_nonzero = x; y_nonzero = x; z_nonzero = x; proper = ((l.order, omega arith), (omega arith, omega arith)); z_bound = omega (arith, bit_field-length (value c.args.x.now) c.in_ok-start.field-0.start c.in_ok-start.field-0.end) }
+    let x = operand-length _ l.first in
+    record { proper = ∣ (l.order, omega arith) ∣₁; x_nonzero = x; y_nonzero = x; z_nonzero = x }
+
+pub run-requires : goal.run-requires
+unfolding meaning
+run-requires c =
+    let last = (legal-field (goal.at.run-requires c).In_ok-start).last in
+    record {
+      enough_bounds = (omega arith, omega arith);
+      length_bound = omega (arith, bit_field-length (value c.args.x.now) c.in_ok-start.field-0.start c.in_ok-start.field-0.end);
+    }
 
 pub returns : goal.returns
 unfolding bit_field_outcome meaning

@@ -10,7 +10,7 @@ use Rattle.outcomes.specs.Outcome.{done}
 use Rattle.limbwords.specs.Value.{value}
 use Rattle.limbwords.specs.Results.{meaning, Proper}
 use Rattle.limbwords.proofs.ValueLaws.{value-small}
-use Rattle.limbstages.proofs.StageLaws.{limb-operand}
+use Rattle.limbstages.proofs.StageLaws.{limb-operand, operand-length}
 use Rattle.limbs.specs.Operations.{copy_bit_outcome}
 use Rattle.limbs.proofs.CheckLaws.{LegalBit, new-bit-refused, new-bit-legal}
 use Rattle.limbstages.proofs.WritesLaws.{writes_as, writes-exited}
@@ -20,12 +20,18 @@ use Rattle.limbs.proofs.bitwise_copy_bit.Goals.{In_ok-position}
 legal-bit : (c : In_ok-position) → LegalBit c.args.x.now c.args.position c.args.bit c.in_ok-position.field-0.position c.in_ok-position.field-0.bit
 legal-bit c = (new-bit-legal c.args.x.now c.ranges.position c.ranges.bit c.check_new_bit.ensures c.in_ok-position.was).0
 
-pub run_field-requires : goal.run_field-requires
-unfolding meaning Proper
-run_field-requires c =
-    let l = legal-bit (goal.at.run_field-requires c).In_ok-position in
+pub invariant_of-d : goal.invariant_of-d
+unfolding Proper
+invariant_of-d c =
+    let l = legal-bit (goal.at.invariant_of-d c).In_ok-position in
     let last = l.last in
-    record { x_value = (l.first, limb-operand _); proper = (omega arith, omega arith); by_index = copy_bit_field-length _ _ _ _ }
+    let x = operand-length _ l.first in
+    record { proper = ∣ (omega arith, omega arith) ∣₁; x_nonzero = x; y_nonzero = operand-length _ (limb-operand c.in_ok-position.field-0.bit); z_nonzero = x }
+
+pub run_field-requires : goal.run_field-requires
+unfolding meaning
+run_field-requires c =
+    record { x_value = (legal-bit (goal.at.run_field-requires c).In_ok-position).first; by_index = copy_bit_field-length _ _ _ _ }
 
 pub returns : goal.returns
 unfolding copy_bit_outcome copy_bit meaning

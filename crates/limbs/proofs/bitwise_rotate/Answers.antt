@@ -10,6 +10,7 @@ use Rattle.outcomes.specs.Outcome.{done}
 use Rattle.limbwords.specs.Value.{value}
 use Rattle.limbwords.specs.Results.{meaning, Proper}
 use Rattle.limbs.specs.Operations.{rotate_outcome}
+use Rattle.limbstages.proofs.StageLaws.{operand-length}
 use Rattle.limbs.proofs.CheckLaws.{LegalField, rotation-refused, rotation-legal}
 use Rattle.limbstages.proofs.WritesLaws.{writes_as, writes-exited}
 use Rattle.limbs.proofs.bitwise_rotate.Goals as goal
@@ -19,12 +20,18 @@ legal-field : (c : In_ok-field) → LegalField c.args.x.now c.args.x.now c.args.
 legal-field c =
     (rotation-legal c.args.x.now c.ranges.start c.ranges.end c.ranges.count c.check_rotation.ensures c.in_ok-field.was).0
 
-pub run_field-requires : goal.run_field-requires
-unfolding meaning Proper
-run_field-requires c =
-    let l = legal-field (goal.at.run_field-requires c).In_ok-field in
+pub invariant_of-d : goal.invariant_of-d
+unfolding Proper
+invariant_of-d c =
+    let l = legal-field (goal.at.invariant_of-d c).In_ok-field in
     let last = l.last in
-    record { x_value = (l.first, l.first); proper = ((l.order, omega arith), reduced-le _ _ c.reduced-by.ensures); by_index = rotate_bit_field-length _ _ _ _ }
+    let x = operand-length _ l.first in
+    record { proper = ∣ ((l.order, omega arith), reduced-le _ _ c.reduced-by.ensures) ∣₁; x_nonzero = x; y_nonzero = x; z_nonzero = x }
+
+pub run_field-requires : goal.run_field-requires
+unfolding meaning
+run_field-requires c =
+    record { x_value = (legal-field (goal.at.run_field-requires c).In_ok-field).first; by_index = rotate_bit_field-length _ _ _ _ }
 
 pub returns : goal.returns
 unfolding rotate_outcome meaning

@@ -30,10 +30,13 @@ returns-then-place-ne0 c =
     ∙ failed-each _ 5 _ (some-failed _ (λ e. c.if-place-ne0.true (c.first_outside-place.ensures ∙ e)))
     ∙ ap (refused 5) (sym c.first_outside-place.ensures)))
 
+pub invariant_of-operate : goal.invariant_of-operate
+invariant_of-operate c = record { accepted = accepts c }
+
 pub operate-requires : goal.operate-requires
-operate-requires c = record { accepted = accepts c; le_code = code-bounds c.args.code c.requires.checked.known }
+operate-requires c = code-bounds c.args.code c.requires.checked.known
 
 pub returns : goal.returns
 returns c =
     let a = c.args in
-    c.operate.ensures ∙ sym (accepted a.width a.code a.args a.count c.requires.checked.known (accepts c.before))
+    c.operate.ensures ∙ sym (accepted a.width a.code a.args a.count c.requires.checked.known (accepts c.before.before))

@@ -12,8 +12,8 @@ use Rattle.fxarith.proofs.arithmetic.add.Goals as goal
 pub returns : goal.returns
 unfolding arg code_of
 returns c =
-    let a = c.requires in
-    let first : SFits w64 (arg c.args.args 0) = record { sfits = omega arith } in
-    let second : SFits w64 (arg c.args.args 1) = record { sfits = omega arith } in
-    c.without_carry.ensures _ (sum-held a (cc (c.sum.ensures, back first, back second)))
-    ∙ sum-outcome a
+    let a = c.args.call.accepted in
+    let first : SFits w64 (arg c.args.call.args 0) = record { sfits = omega arith } in
+    let second : SFits w64 (arg c.args.call.args 1) = record { sfits = omega arith } in
+    c.without_carry.ensures _ (sum-held c.requires a (cc (c.sum.ensures, back first, back second)))
+    ∙ sum-outcome c.requires a

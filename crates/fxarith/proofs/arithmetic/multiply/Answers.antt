@@ -13,13 +13,13 @@ use Rattle.fxarith.proofs.ArithmeticLaws.{product-outcome}
 use Rattle.fxarith.proofs.arithmetic.multiply.Goals as goal
 
 pub exact-requires : goal.exact-requires
-exact-requires c = record { width_value = c.requires.width; number = number-positive Refusal.Overflow }
+exact-requires c = record { width_value = c.args.call.accepted.width; number = number-positive Refusal.Overflow }
 
 pub returns : goal.returns
 unfolding arg code_of
 returns c =
-    let first : SFits w64 (arg c.args.args 0) = record { sfits = omega arith } in
-    let second : SFits w64 (arg c.args.args 1) = record { sfits = omega arith } in
+    let first : SFits w64 (arg c.args.call.args 0) = record { sfits = omega arith } in
+    let second : SFits w64 (arg c.args.call.args 1) = record { sfits = omega arith } in
     checked-as _ _ c.exact.ensures
     ∙ checked-cong 6 _ (c.product.ensures ∙ ap₂ ◌*ℤ◌ (back first) (back second)) refl
-    ∙ product-outcome c.requires
+    ∙ product-outcome c.requires c.args.call.accepted

@@ -14,22 +14,22 @@ use Rattle.fxarith.proofs.ArithmeticLaws.{negated-outcome, difference-held, diff
 use Rattle.fxarith.proofs.arithmetic.subtract.Goals as goal
 
 pub checked-requires : goal.checked-requires
-checked-requires c = record { width_value = c.requires.width; number = number-positive Refusal.Domain }
+checked-requires c = record { width_value = c.args.call.accepted.width; number = number-positive Refusal.Domain }
 
-pub returns-then-count-eq1 : goal.returns-then-count-eq1
+pub returns-then-call-eq1 : goal.returns-then-call-eq1
 unfolding arg code_of
-returns-then-count-eq1 c =
-    let first : SFits w64 (arg c.args.args 0) = record { sfits = omega arith } in
+returns-then-call-eq1 c =
+    let first : SFits w64 (arg c.args.call.args 0) = record { sfits = omega arith } in
     checked-as _ _ c.checked.ensures
     ∙ checked-cong 5 _
     (with_sign-not _ _ ∙ ap neg_ℤ (rejoin first c.is_negative.ensures c.absolute.ensures)) refl
-    ∙ negated-outcome _ _ _ c.if-count-eq1.true
+    ∙ negated-outcome _ c.requires _ _ c.if-call-eq1.true
 
 pub returns : goal.returns
 unfolding arg code_of
 returns c =
-    let first : SFits w64 (arg c.args.args 0) = record { sfits = omega arith } in
-    let second : SFits w64 (arg c.args.args 1) = record { sfits = omega arith } in
-    let more = c.if-count-eq1.false in
-    c.without_carry.ensures _ (difference-held c.requires more (cc (c.difference.ensures, back first, back second)))
-    ∙ difference-outcome c.requires more c.well_formed.1.0.1.0.1
+    let first : SFits w64 (arg c.args.call.args 0) = record { sfits = omega arith } in
+    let second : SFits w64 (arg c.args.call.args 1) = record { sfits = omega arith } in
+    let more = c.if-call-eq1.false in
+    c.without_carry.ensures _ (difference-held c.requires c.args.call.accepted more (cc (c.difference.ensures, back first, back second)))
+    ∙ difference-outcome c.requires c.args.call.accepted more (omega arith)

@@ -21,17 +21,17 @@ from_first step {n = n} {xs = xs} a h e =
     ap (λ (x : ℤ). fold_from step x (counted xs n))
     (arg-counted xs n 0 (between 1 n 4 (arity-row e a)).0 ∙ sym (back-word (arg xs 0) h))
 
-pub returns-then-code-eq11 : goal.returns-then-code-eq11
+pub returns-then-call-eq11 : goal.returns-then-call-eq11
 unfolding rows row_of arg larger largest
-returns-then-code-eq11 c =
-    let e = ap row_of c.if-code-eq11.true in
-    fold-answer largest larger _ _ _ _ e (from_first larger c.requires.accepted (omega arith) e) c.done.ensures c.fold_all.type_inv
-    (c.fold_all.ensures larger (λ x y r h k p. search rules))
+returns-then-call-eq11 c =
+    let e = ap row_of c.if-call-eq11.true in
+    fold-answer largest larger _ _ _ _ e (from_first larger c.args.call.accepted (omega arith) e) c.done.ensures c.fold_all.type_inv
+    (rw c.slots-args.ensures at (c.fold_all.ensures larger (λ x y r h k p. search rules)))
 
-pub returns-else-code-eq11 : goal.returns-else-code-eq11
+pub returns-else-call-eq11 : goal.returns-else-call-eq11
 unfolding rows row_of arg smaller smallest
-returns-else-code-eq11 c =
-    let k : c.args.code ≡ 12 = omega arith in
+returns-else-call-eq11 c =
+    let k : c.args.call.code ≡ 12 = omega arith in
     let e = ap row_of k in
-    fold-answer smallest smaller _ _ _ _ e (from_first smaller c.requires.accepted (omega arith) e) c.done-else-code-eq11.ensures c.fold_all-else-code-eq11.type_inv
-    (c.fold_all-else-code-eq11.ensures smaller (λ x y r h k p. search rules))
+    fold-answer smallest smaller _ _ _ _ e (from_first smaller c.args.call.accepted (omega arith) e) c.done-else-call-eq11.ensures c.fold_all-else-call-eq11.type_inv
+    (rw c.slots-args.ensures at (c.fold_all-else-call-eq11.ensures smaller (λ x y r h k p. search rules)))

@@ -23,15 +23,15 @@ use Rattle.fxarith.proofs.compare.predicate.Goals.{After-absolute-n}
 
 -- a test of the argument and of its absolute value, as the answer of its code
 tested : (p : ℤ → ℕ → Bool) (c : After-absolute-n)
-    → row_of c.args.code ≡ row 1 1 [] 0 (single (λ v ys. truth (p (arg ys 0) (nat_abs (arg ys 0)))))
-    → answer (done (truth (p (to_z w64 (of_z w64 (arg c.args.args 0))) c.absolute-n.result), pos 0))
-    ≡ answer (outcome c.args.width c.args.code (counted c.args.args c.args.count))
+    → row_of c.args.call.code ≡ row 1 1 [] 0 (single (λ v ys. truth (p (arg ys 0) (nat_abs (arg ys 0)))))
+    → answer (done (truth (p (to_z w64 (of_z w64 (arg c.args.call.args 0))) c.absolute-n.result), pos 0))
+    ≡ answer (outcome c.args.call.width c.args.call.code (counted c.args.call.args c.args.call.count))
 unfolding arg
 tested p c e =
-    let x = back-word (arg c.args.args 0) (omega arith) in
+    let x = back-word (arg c.args.call.args 0) (omega arith) in
     done-cong (ap₂ (λ (y : ℤ) (n : ℕ). truth (p y n)) x (c.absolute-n.ensures ∙ ap nat_abs x)) refl
-    ∙ never-checked c.args.width _
-    ∙ one-outcome (λ v y. truth (p y (nat_abs y))) e c.requires.accepted
+    ∙ never-checked c.args.call.width _
+    ∙ one-outcome (λ v y. truth (p y (nat_abs y))) e c.args.call.accepted
 
 pub returns-in-6 : goal.returns-in-6
 unfolding rows row_of arg is_zero
@@ -52,5 +52,5 @@ returns-in-9 c = c.question-in-9.ensures ∙ tested (λ x n. eqb (n % 2) 1) c.be
 pub returns-in_default : goal.returns-in_default
 unfolding rows row_of arg is_even odd
 returns-in_default c =
-    let e : c.args.code ≡ 10 = omega arith in
+    let e : c.args.call.code ≡ 10 = omega arith in
     c.question-in_default.ensures ∙ tested (λ x n. not (eqb (n % 2) 1)) c.before.before (ap row_of e)

@@ -28,59 +28,59 @@ abbrev start : After-absolute-k → Start
 start c = c.before.before.before
 
 -- the number, and the position
-number : (c : After-absolute-k) → to_z w64 (of_z w64 (arg (start c).args.args 0)) ≡ arg (start c).args.args 0
+number : (c : After-absolute-k) → to_z w64 (of_z w64 (arg (start c).args.call.args 0)) ≡ arg (start c).args.call.args 0
 unfolding arg
-number c = back-word (arg (start c).args.args 0) (omega arith)
+number c = back-word (arg (start c).args.call.args 0) (omega arith)
 
-position : (c : After-absolute-k) → c.absolute-k.result ≡ nat_abs (arg (start c).args.args 1)
+position : (c : After-absolute-k) → c.absolute-k.result ≡ nat_abs (arg (start c).args.call.args 1)
 unfolding arg
-position c = c.absolute-k.ensures ∙ ap nat_abs (back-word (arg (start c).args.args 1) (omega arith))
+position c = c.absolute-k.ensures ∙ ap nat_abs (back-word (arg (start c).args.call.args 1) (omega arith))
 
-bounds : (c : After-absolute-k) → (c.absolute-k.result < (start c).args.width) × (24 ≤ (start c).args.width) × ((start c).args.width ≤ 64)
+bounds : (c : After-absolute-k) → (c.absolute-k.result < (start c).args.call.width) × (24 ≤ (start c).args.call.width) × ((start c).args.call.width ≤ 64)
 bounds c =
-    let b = width-bounds (start c).args.width (start c).requires.accepted.width in
-    (omega (arith, position c, position-call (start c).requires.le_code (start c).requires.accepted), b.0, b.1)
+    let b = width-bounds (start c).args.call.width (start c).args.call.accepted.width in
+    (omega (arith, position c, position-call (start c).requires (start c).args.call.accepted), b.0, b.1)
 
 -- the new bit
 abbrev at : After-absolute-bit → After-absolute-k
 at c = c.before.before.before
 
-code : (c : After-absolute-bit) → (start (at c)).args.code ≡ 34
+code : (c : After-absolute-bit) → (start (at c)).args.call.code ≡ 34
 code c = omega arith
 
-new : (c : After-absolute-bit) → (pos c.absolute-bit.result ≡ arg (start (at c)).args.args 2) × (c.absolute-bit.result ≤ 1)
+new : (c : After-absolute-bit) → (pos c.absolute-bit.result ≡ arg (start (at c)).args.call.args 2) × (c.absolute-bit.result ≤ 1)
 unfolding arg rows row_of domain_at
 new c =
-    let b = new-bit (start (at c)).requires.accepted (ap (λ (k : ℕ). domain_of k 2) (code c)) in
-    let e = c.absolute-bit.ensures ∙ ap nat_abs (back-word (arg (start (at c)).args.args 2) (omega arith)) in
-    (ap pos e ∙ natural-pos (arg (start (at c)).args.args 2) b.0, omega (arith, e, b.1))
+    let b = new-bit (start (at c)).args.call.accepted (ap (λ (k : ℕ). domain_of k 2) (code c)) in
+    let e = c.absolute-bit.ensures ∙ ap nat_abs (back-word (arg (start (at c)).args.call.args 2) (omega arith)) in
+    (ap pos e ∙ natural-pos (arg (start (at c)).args.call.args 2) b.0, omega (arith, e, b.1))
 
 -- what the call answers, of the words
 copied : {x y b c : ℤ} {j k : ℕ} (w : ℕ) → x ≡ y → j ≡ k → b ≡ c → mod0 (copy_bit x j b) (pos (2 ^ w)) ≡ mod0 (copy_bit y k c) (pos (2 ^ w))
 copied w p q r = cc
 
 copy-answer : (c : After-absolute-bit)
-    → answer (done (mod0 (copy_bit (to_z w64 (of_z w64 (arg (start (at c)).args.args 0))) (at c).absolute-k.result (pos c.absolute-bit.result)) (pos (2 ^ (start (at c)).args.width)), pos 0))
-    ≡ answer (outcome (start (at c)).args.width (start (at c)).args.code (counted (start (at c)).args.args (start (at c)).args.count))
+    → answer (done (mod0 (copy_bit (to_z w64 (of_z w64 (arg (start (at c)).args.call.args 0))) (at c).absolute-k.result (pos c.absolute-bit.result)) (pos (2 ^ (start (at c)).args.call.width)), pos 0))
+    ≡ answer (outcome (start (at c)).args.call.width (start (at c)).args.call.code (counted (start (at c)).args.call.args (start (at c)).args.call.count))
 unfolding rows row_of
 copy-answer c =
-    done-cong (copied (start (at c)).args.width (number (at c)) (position (at c)) (new c).0) refl
+    done-cong (copied (start (at c)).args.call.width (number (at c)) (position (at c)) (new c).0) refl
     ∙ never-checked _ _
-    ∙ three-outcome (λ v x k b. mod0 (copy_bit x (nat_abs k) b) (pos (2 ^ v))) (ap row_of (code c)) (start (at c)).requires.accepted
+    ∙ three-outcome (λ v x k b. mod0 (copy_bit x (nat_abs k) b) (pos (2 ^ v))) (ap row_of (code c)) (start (at c)).args.call.accepted
 
 pub bit_set-requires : goal.bit_set-requires
 bit_set-requires c = omega (arith, bounds c.before)
 
-pub returns-then-code-eq33 : goal.returns-then-code-eq33
+pub returns-then-call-eq33 : goal.returns-then-call-eq33
 unfolding arg rows row_of
-returns-then-code-eq33 c =
+returns-then-call-eq33 c =
     c.question.ensures
     ∙ done-cong (ap truth (cc (c.bit_set.ensures, number c.before.before.before, position c.before.before.before))) refl
     ∙ never-checked _ _
-    ∙ two-outcome (λ v x k. truth (testbit x (nat_abs k))) (ap row_of c.if-code-eq33.true) (start c.before.before.before).requires.accepted
+    ∙ two-outcome (λ v x k. truth (testbit x (nat_abs k))) (ap row_of c.if-call-eq33.true) (start c.before.before.before).args.call.accepted
 
-pub overflow_sub-width : goal.overflow_sub-width
-overflow_sub-width c = omega (arith, bounds (at c))
+pub overflow_sub-call : goal.overflow_sub-call
+overflow_sub-call c = omega (arith, bounds (at c))
 
 pub copy_bit_field-requires : goal.copy_bit_field-requires
 copy_bit_field-requires c = omega (arith, bounds (at c.before))
@@ -88,19 +88,19 @@ copy_bit_field-requires c = omega (arith, bounds (at c.before))
 pub extend-requires : goal.extend-requires
 extend-requires c = omega (arith, bounds (at c.before))
 
-pub returns-then-k-width : goal.returns-then-k-width
+pub returns-then-k-call : goal.returns-then-k-call
 unfolding arg rows row_of
-returns-then-k-width c =
+returns-then-k-call c =
     done-word c.done.ensures c.copy_bit_field.type_inv
     (c.copy_bit_field.ensures
-    ∙ copy-below (start (at c.before.before.before)).args.width _ _ _ c.if-k-width.true
-    (rw (number (at c.before.before.before)) (fixnum-at (start (at c.before.before.before)).requires.accepted 0 (rw (code c.before.before.before) (lit< tt)))))
+    ∙ copy-below (start (at c.before.before.before)).args.call.width _ _ _ c.if-k-call.true
+    (rw (number (at c.before.before.before)) (fixnum-at (start (at c.before.before.before)).args.call.accepted 0 (rw (code c.before.before.before) (lit< tt)))))
     ∙ copy-answer c.before.before.before
 
-pub returns-else-k-width : goal.returns-else-k-width
+pub returns-else-k-call : goal.returns-else-k-call
 unfolding arg
-returns-else-k-width c =
-    done-word c.done-else-k-width.ensures c.extend.type_inv
+returns-else-k-call c =
+    done-word c.done-else-k-call.ensures c.extend.type_inv
     (c.extend.ensures
-    ∙ copy-sign (start (at c.before.before.before)).args.width _ _ _ (omega (arith, bounds (at c.before.before.before), c.if-k-width.false)) (new c.before.before.before).1)
+    ∙ copy-sign (start (at c.before.before.before)).args.call.width _ _ _ (omega (arith, bounds (at c.before.before.before), c.if-k-call.false)) (new c.before.before.before).1)
     ∙ copy-answer c.before.before.before

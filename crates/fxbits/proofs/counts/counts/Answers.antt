@@ -31,17 +31,17 @@ pub returns-in-30 : goal.returns-in-30
 unfolding rows row_of arg
 returns-in-30 c =
     count-answer bit_count c.done.ensures c.bit_count.ensures c.bit_count.type_inv
-    (record { sfits = omega arith }) (ap row_of c.in-30.is) c.requires.accepted
+    (record { sfits = omega arith }) (ap row_of c.in-30.is) c.args.call.accepted
 
 pub returns-in-31 : goal.returns-in-31
 unfolding rows row_of arg
 returns-in-31 c =
     count-answer (λ z. pos (bit_length z)) c.done-in-31.ensures c.length.ensures c.length.type_inv
-    (record { sfits = omega arith }) (ap row_of c.in-31.is) c.requires.accepted
+    (record { sfits = omega arith }) (ap row_of c.in-31.is) c.args.call.accepted
 
 pub returns-in_default : goal.returns-in_default
 unfolding rows row_of arg
 returns-in_default c =
-    let last : c.args.code ≡ 32 = omega arith in
+    let last : c.args.call.code ≡ 32 = omega arith in
     count-answer first_bit_set c.done-in_default.ensures c.first_bit_set.ensures c.first_bit_set.type_inv
-    (record { sfits = omega arith }) (ap row_of last) c.requires.accepted
+    (record { sfits = omega arith }) (ap row_of last) c.args.call.accepted

@@ -17,10 +17,10 @@ use Rattle.fxbits.proofs.fields.copied.Goals.{After-absolute-end, Start}
 abbrev start : After-absolute-end → Start
 start c = c.before.before.before.before.before
 
-words : (c : After-absolute-end) → FieldWords (start c).args.args c.absolute-start.result c.absolute-end.result
+words : (c : After-absolute-end) → FieldWords (start c).args.call.args c.absolute-start.result c.absolute-end.result
 unfolding arg rows row_of domain_at
 words c =
-    field-words (field (start c).requires refl refl) (omega arith) (omega arith)
+    field-words (field (start c).args.call.accepted (rw (start c).requires refl) (rw (start c).requires refl)) (omega arith) (omega arith)
     (omega arith) c.absolute-start.ensures c.absolute-end.ensures
 
 pub overflow_sub-end : goal.overflow_sub-end
@@ -39,5 +39,5 @@ returns c =
     (c.copy_bit_field.ensures
     ∙ copy_bit_field-put _ _ _ _ c.low_bits-source.ensures
     ∙ ap (copy_bit_field _ _ _) (back (record { sfits = omega arith }))
-    ∙ on-field (words c.before.before.before.before) (λ x s e. copy_bit_field x s e (arg (start c.before.before.before.before).args.args 3)))
-    ∙ four-outcome (λ v x s e y. copy_bit_field x (nat_abs s) (nat_abs e) y) refl (start c.before.before.before.before).requires
+    ∙ on-field (words c.before.before.before.before) (λ x s e. copy_bit_field x s e (arg (start c.before.before.before.before).args.call.args 3)))
+    ∙ four-outcome (λ v x s e y. copy_bit_field x (nat_abs s) (nat_abs e) y) (ap row_of (start c.before.before.before.before).requires) (start c.before.before.before.before).args.call.accepted

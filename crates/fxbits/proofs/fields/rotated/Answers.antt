@@ -18,21 +18,23 @@ use Rattle.fxbits.proofs.fields.rotated.Goals.{After-absolute-c, After-absolute-
 abbrev start : After-absolute-end → Start
 start c = c.before.before.before.before.before
 
-words : (c : After-absolute-end) → FieldWords (start c).args.args c.absolute-start.result c.absolute-end.result
+words : (c : After-absolute-end) → FieldWords (start c).args.call.args c.absolute-start.result c.absolute-end.result
 unfolding arg rows row_of domain_at
 words c =
-    field-words (field (start c).requires refl refl) (omega arith) (omega arith)
+    field-words (field (start c).args.call.accepted (rw (start c).requires refl) (rw (start c).requires refl)) (omega arith) (omega arith)
     (omega arith) c.absolute-start.ensures c.absolute-end.ensures
 
 count : (c : After-absolute-c)
-    → (pos c.absolute-c.result ≡ arg (start c.before.before).args.args 3)
+    → (pos c.absolute-c.result ≡ arg (start c.before.before).args.call.args 3)
     × (c.absolute-c.result ≤ c.absolute-end.result - c.absolute-start.result)
 unfolding arg rows row_of domain_at
 count c =
     let f = words c.before.before in
-    let r = rotation (start c.before.before).requires (field (start c.before.before).requires refl refl) refl in
-    let e = c.absolute-c.ensures ∙ ap nat_abs (back-word (arg (start c.before.before).args.args 3) (omega arith)) in
-    (ap pos e ∙ natural-pos (arg (start c.before.before).args.args 3) r.0, omega (arith, e, f.first, f.last, r.1))
+    let is = (start c.before.before).requires in
+    let a = (start c.before.before).args.call.accepted in
+    let r = rotation a (field a (rw is refl) (rw is refl)) (rw is refl) in
+    let e = c.absolute-c.ensures ∙ ap nat_abs (back-word (arg (start c.before.before).args.call.args 3) (omega arith)) in
+    (ap pos e ∙ natural-pos (arg (start c.before.before).args.call.args 3) r.0, omega (arith, e, f.first, f.last, r.1))
 
 pub rotate_bit_field-requires : goal.rotate_bit_field-requires
 rotate_bit_field-requires c = let b = (words c.before.before).bounds in (b.0, b.1, (count c).1)
@@ -43,5 +45,5 @@ returns c =
     done-never _ c.done.ensures c.rotate_bit_field.type_inv
     (c.rotate_bit_field.ensures
     ∙ ap (rotate_bit_field _ _ _) (count c.before.before).0
-    ∙ on-field (words c.before.before.before.before) (λ x s e. rotate_bit_field x s e (arg (start c.before.before.before.before).args.args 3)))
-    ∙ four-outcome (λ v x s e y. rotate_bit_field x (nat_abs s) (nat_abs e) y) refl (start c.before.before.before.before).requires
+    ∙ on-field (words c.before.before.before.before) (λ x s e. rotate_bit_field x s e (arg (start c.before.before.before.before).args.call.args 3)))
+    ∙ four-outcome (λ v x s e y. rotate_bit_field x (nat_abs s) (nat_abs e) y) (ap row_of (start c.before.before.before.before).requires) (start c.before.before.before.before).args.call.accepted

@@ -1,6 +1,6 @@
 -- `fxbits::fields::taken` meets its contract. Assumes nothing.
 use native.Mathlib.Omega.{arith}
-use mathlib.Core.Path.{refl, ◌∙◌}
+use mathlib.Core.Path.{refl, ap, ◌∙◌}
 use lib.IntN.{nat_abs}
 use Rattle.bits.specs.Field.{bit_field}
 use Rattle.words.proofs.RotateWords.{bit_field-number}
@@ -16,10 +16,10 @@ use Rattle.fxbits.proofs.fields.taken.Goals.{After-absolute-end, Start}
 abbrev start : After-absolute-end → Start
 start c = c.before.before.before.before.before
 
-words : (c : After-absolute-end) → FieldWords (start c).args.args c.absolute-start.result c.absolute-end.result
+words : (c : After-absolute-end) → FieldWords (start c).args.call.args c.absolute-start.result c.absolute-end.result
 unfolding arg rows row_of domain_at
 words c =
-    field-words (field (start c).requires refl refl) (omega arith) (omega arith)
+    field-words (field (start c).args.call.accepted (rw (start c).requires refl) (rw (start c).requires refl)) (omega arith) (omega arith)
     (omega arith) c.absolute-start.ensures c.absolute-end.ensures
 
 pub bit_field-requires : goal.bit_field-requires
@@ -33,4 +33,4 @@ pub returns : goal.returns
 unfolding arg rows row_of
 returns c =
     done-never _ c.done.ensures (overflow_cast-bit_field c.before).sfits (bit_field-number _ _ _ c.bit_field.ensures ∙ on-field (words c.before.before) bit_field)
-    ∙ three-outcome (λ v x s e. bit_field x (nat_abs s) (nat_abs e)) refl (start c.before.before).requires
+    ∙ three-outcome (λ v x s e. bit_field x (nat_abs s) (nat_abs e)) (ap row_of (start c.before.before).requires) (start c.before.before).args.call.accepted

@@ -1,6 +1,6 @@
 -- `fxbits::logical::choose` meets its contract. Assumes nothing.
 use native.Mathlib.Omega.{arith}
-use mathlib.Core.Path.{refl, ap₂, ◌∙◌}
+use mathlib.Core.Path.{ap, ap₂, ◌∙◌}
 use Rattle.bits.specs.Logical.{bitwise_and, bitwise_ior, bitwise_if}
 use Rattle.words.proofs.WordLaws.{back, not-word}
 use Rattle.fxtable.specs.Domains.{arg}
@@ -21,4 +21,4 @@ returns c =
     (back (record { sfits = c.and-2.type_inv })
     ∙ c.and-2.ensures
     ∙ ap₂ bitwise_and (not-word (record { sfits = omega arith })) (back (record { sfits = omega arith }))))
-    ∙ three-outcome (λ v x y z. bitwise_if x y z) refl c.requires
+    ∙ three-outcome (λ v x y z. bitwise_if x y z) (ap row_of c.requires) c.args.call.accepted

@@ -1,6 +1,6 @@
 -- `fxbits::logical::not` meets its contract. Assumes nothing.
 use native.Mathlib.Omega.{arith}
-use mathlib.Core.Path.{refl, ◌∙◌}
+use mathlib.Core.Path.{refl, ap, ◌∙◌}
 use Rattle.bits.specs.Logical.{bitwise_not}
 use Rattle.words.proofs.WordLaws.{not-word}
 use Rattle.fxtable.specs.Domains.{arg}
@@ -15,4 +15,4 @@ returns c =
     c.done.ensures
     ∙ done-cong (not-word (record { sfits = omega arith })) refl
     ∙ never-checked _ _
-    ∙ one-outcome (λ v x. bitwise_not x) refl c.requires
+    ∙ one-outcome (λ v x. bitwise_not x) (ap row_of c.requires) c.args.call.accepted

@@ -18,32 +18,32 @@ use Rattle.fxbits.proofs.shifts.shift_either.Goals.{After-absolute-k, After-is_n
 abbrev start : After-absolute-k → Start
 start c = c.before.before.before
 
-words : (c : After-absolute-k) → ShiftWords (start c).args.args c.absolute-k.result
+words : (c : After-absolute-k) → ShiftWords (start c).args.call.args c.absolute-k.result
 unfolding arg rows row_of domain_at
-words c = shift-words (signed-distance-lt (start c).requires refl) (omega arith) (omega arith) c.absolute-k.ensures
+words c = shift-words (signed-distance-lt (start c).args.call.accepted (rw (start c).requires refl)) (omega arith) (omega arith) c.absolute-k.ensures
 
-sign : (c : After-is_negative) → is_negative (arg (start c.before).args.args 1) ≡ c.is_negative.result
+sign : (c : After-is_negative) → is_negative (arg (start c.before).args.call.args 1) ≡ c.is_negative.result
 unfolding arg
-sign c = sym (c.is_negative.ensures ∙ ap is_negative (back-word (arg (start c.before).args.args 1) (omega arith)))
+sign c = sym (c.is_negative.ensures ∙ ap is_negative (back-word (arg (start c.before).args.call.args 1) (omega arith)))
 
 pub right-requires : goal.right-requires
 right-requires c = (words c.before.before).bound
 
 pub left-requires : goal.left-requires
-left-requires c = ((start c.before.before).requires.width, (words c.before.before).bound)
+left-requires c = ((start c.before.before).args.call.accepted.width, (words c.before.before).bound)
 
 pub returns-then-is_negative : goal.returns-then-is_negative
 unfolding rows row_of arg
 returns-then-is_negative c =
     done-word c.done.ensures c.right.type_inv (c.right.ensures ∙ on-shift (words c.before.before.before.before) shift_right)
-    ∙ sym (checked-fits 6 (start c.before.before.before.before).args.width _ _ (right-fits _ _ _ (fixnum-at (start c.before.before.before.before).requires 0 (lit< tt))))
-    ∙ checked-cong 6 (start c.before.before.before.before).args.width (sym (shift-right _ _ (sign c.before.before.before ∙ c.if-is_negative.true))) refl
-    ∙ two-outcome (λ v x d. arithmetic_shift x d) refl (start c.before.before.before.before).requires
+    ∙ sym (checked-fits 6 (start c.before.before.before.before).args.call.width _ _ (right-fits _ _ _ (fixnum-at (start c.before.before.before.before).args.call.accepted 0 (rw (start c.before.before.before.before).requires (lit< tt)))))
+    ∙ checked-cong 6 (start c.before.before.before.before).args.call.width (sym (shift-right _ _ (sign c.before.before.before ∙ c.if-is_negative.true))) refl
+    ∙ two-outcome (λ v x d. arithmetic_shift x d) (ap row_of (start c.before.before.before.before).requires) (start c.before.before.before.before).args.call.accepted
 
 pub returns-else-is_negative : goal.returns-else-is_negative
 unfolding rows row_of arg
 returns-else-is_negative c =
     c.left.ensures
-    ∙ checked-cong 6 (start c.before.before.before).args.width
+    ∙ checked-cong 6 (start c.before.before.before).args.call.width
     (on-shift (words c.before.before.before) shift_left ∙ sym (shift-left _ _ (sign c.before.before ∙ c.if-is_negative.false))) refl
-    ∙ two-outcome (λ v x d. arithmetic_shift x d) refl (start c.before.before.before).requires
+    ∙ two-outcome (λ v x d. arithmetic_shift x d) (ap row_of (start c.before.before.before).requires) (start c.before.before.before).args.call.accepted

@@ -4,10 +4,9 @@ use mathlib.Core.Path.{ap}
 use native.Mathlib.Omega.{arith}
 use Prim.Native.Nat.{◌-◌, ◌≤◌}
 use lib.ListN.{length}
-use Rattle.outcomes.proofs.BufferLaws.{part_length}
 use Rattle.limbwords.specs.Value.{value}
 use Rattle.limbwords.proofs.ValueLaws.{limb_count-positive}
-use Rattle.limbstages.proofs.WritesLaws.{no-capacity, has-capacity, first-within, limbs-stored}
+use Rattle.limbstages.proofs.WritesLaws.{no-capacity, has-capacity, first-within, limbs-filled}
 use borrow.Author.Rules.{rules}
 use Rattle.limbstages.proofs.run.store_limbs.Goals as goal
 use Rattle.limbstages.proofs.run.store_limbs.Goals.{Else-not-has_capacity}
@@ -18,23 +17,17 @@ capacity c = has-capacity c.has_capacity.ensures (ap not c.if-not-has_capacity.f
 within : (c : Else-not-has_capacity) → c.args.first ≤ length c.args.out.now
 within c = first-within _ c.requires.count_value (capacity c)
 
-pub returns-then-not-has_capacity : goal.returns-then-not-has_capacity
-returns-then-not-has_capacity c = no-capacity _ _ _ c.requires.count_value c.has_capacity.ensures (ap not c.if-not-has_capacity.true)
-
-pub copy-requires : goal.copy-requires
-copy-requires c = record { x_nonzero = c.requires.x_nonzero.0; n_in_bounds = (omega (arith, part_length c.args.out.now c.args.first, capacity (goal.at.copy-requires c).Else-not-has_capacity), c.requires.x_nonzero.1) }
-
-pub returns : goal.returns
-returns c = limbs-stored _ _ _ c.requires.count_value (capacity (goal.at.returns c).Else-not-has_capacity) _ c.copy.ensures
-
 pub has_capacity-requires : goal.has_capacity-requires
 has_capacity-requires c = omega (arith, c.requires.count_value, limb_count-positive (value c.args.x.now))
+
+pub returns-then-not-has_capacity : goal.returns-then-not-has_capacity
+returns-then-not-has_capacity c = no-capacity _ _ _ c.requires.count_value c.has_capacity.ensures (ap not c.if-not-has_capacity.true)
 
 pub offset_bounds-out-at : goal.offset_bounds-out-at
 offset_bounds-out-at c = let l = within c in search rules
 
-pub slice_bounds-copy-count : goal.slice_bounds-copy-count
-slice_bounds-copy-count = within
+pub slice_bounds-copy-end : goal.slice_bounds-copy-end
+slice_bounds-copy-end c = omega (arith, capacity c, within c)
 
-pub slice_bounds-copy-start : goal.slice_bounds-copy-start
-slice_bounds-copy-start = within
+pub returns : goal.returns
+returns c = limbs-filled _ _ _ c.requires.count_value (capacity (goal.at.returns c).Else-not-has_capacity) _ c.copy.ensures

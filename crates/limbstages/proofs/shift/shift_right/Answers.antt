@@ -7,15 +7,22 @@ use Rattle.limbstages.proofs.WritesLaws.{writes_as}
 use Rattle.limbstages.proofs.ShiftLaws.{legal-lengths, right-enough, capped_le, capped-right}
 use Rattle.limbstages.proofs.shift.shift_right.Goals as goal
 
-pub enough_right-enough-requires : goal.enough_right-enough-requires
-enough_right-enough-requires c = record { x_nonzero = (legal-lengths _ c.requires).0; by_bound = capped_le c.args.by c.capped-distance.ensures }
+pub invariant_of-d : goal.invariant_of-d
+unfolding Proper
+invariant_of-d c =
+    let n = (legal-lengths _ c.requires).0 in
+    let r = capped_le c.args.by c.capped-distance.ensures in
+    record { proper = ∣ omega arith ∣₁; x_nonzero = n; y_nonzero = n; z_nonzero = n }
+
+pub enough_right-requires : goal.enough_right-requires
+enough_right-requires c = record { x_nonzero = (legal-lengths _ c.requires).0; by_bound = capped_le c.args.by c.capped-distance.ensures }
 
 pub run-requires : goal.run-requires
-unfolding meaning Proper
+unfolding meaning
 run-requires c =
     let n = legal-lengths _ c.requires in
-    let r = capped_le c.args.by c.capped-distance.ensures in
-    record { x_nonzero = n.0; y_nonzero = n.0; z_nonzero = n.0; proper = (omega arith, (c.enough_right-enough.ensures.0.0, omega (arith, n.1))); z_bound = right-enough _ c.requires _ _ c.enough_right-enough.ensures.0.0 c.enough_right-enough.ensures.1 }
+    let e = c.enough_right.ensures.0 in
+    record { enough_bounds = (e.0, omega (arith, n.1, e.1)); length_bound = right-enough _ c.requires _ _ e.0 c.enough_right.ensures.1 }
 
 pub returns : goal.returns
 unfolding meaning
