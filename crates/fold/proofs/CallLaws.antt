@@ -5,7 +5,7 @@ use mathlib.Core.Bool.{true, false}
 use mathlib.Core.List.{List}
 use lib.IntN.{ℤ}
 use Rattle.fold.specs.declared.Fold.{Fold}
-use Rattle.fold.specs.declared.Refused.{Refused}
+use Rattle.fold.specs.declared.opening.Refused.{Refused}
 use Rattle.std.specs.Prelude.{Ok, Err}
 use Rattle.fxtable.specs.Calls.{answer}
 use Rattle.fold.specs.Fold.{rotation, is_open, fold_bytes}

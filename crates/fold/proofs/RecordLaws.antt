@@ -13,7 +13,7 @@ use Rattle.outcomes.specs.Refusal.{code_of}
 use Rattle.words.proofs.WordLaws.{back, back-word}
 use Rattle.fold.specs.declared.Fold.{Fold}
 use Rattle.fold.specs.declared.Opened.{Opened}
-use Rattle.fold.specs.declared.Refused.{Refused}
+use Rattle.fold.specs.declared.opening.Refused.{Refused}
 use Rattle.fold.specs.Fold.{settings, with_accumulator, rotation, is_open}
 use Rattle.fold.specs.Calls.{opened, opened_as}
 

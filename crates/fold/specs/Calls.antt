@@ -20,7 +20,7 @@ use Rattle.fxtable.specs.declared.answer.Answer.{Answer}
 use Rattle.fxtable.specs.Calls.{answer_of}
 use Rattle.fold.specs.declared.Fold.{Fold}
 use Rattle.fold.specs.declared.Opened.{Opened}
-use Rattle.fold.specs.declared.Refused.{Refused}
+use Rattle.fold.specs.declared.opening.Refused.{Refused}
 use Rattle.fold.specs.Fold.{settings, with_accumulator, rotation, is_open, fold_bytes}
 
 -- what opening answers, and the record afterwards

@@ -9,10 +9,12 @@ ghost use Rattle.fold.specs.Calls.{opening, opening_of, folding, folding_of, rea
 
 mod byte;
 mod four;
+mod opening;
 mod piece;
 mod record;
 mod run;
 
+pub use opening::Refused;
 use outcomes::refusal::Refusal;
 use record::Open;
 
@@ -25,13 +27,6 @@ pub struct Fold {
     pub end: i64,
     pub count: i64,
     pub accumulator: i64,
-}
-
-// Why opening is refused, and the place of the field that it is refused for, where it is one: accumulator 1, start 2, end 3, count 4.
-#[derive(Clone, Copy, Debug, PartialEq, Eq)]
-pub struct Refused {
-    pub refusal: Refusal,
-    pub place: Option<u64>,
 }
 
 // The same for C: the refusal's number, 0 for done, and the place, 0 for none.
