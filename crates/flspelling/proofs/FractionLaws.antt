@@ -8,8 +8,8 @@ use borrow.Author.Tests.{eq-eqb, ne_eqb}
 use Rattle.output.specs.Put.{filled, after}
 use Rattle.spelling.specs.Spellings.{glyph}
 use Rattle.flspelling.specs.Spellings.{fraction}
-use Rattle.flspelling.specs.Inner.{Puts}
-use Rattle.flspelling.proofs.PutsLaws.{puts_then}
+use Rattle.output.specs.Put.{Puts}
+use Rattle.output.proofs.PutsLaws.{puts_then}
 
 -- some digits of m are put, and those of the rest are ahead
 pub record Going (m : ℕ) (first : List ℕ) (at : ℕ) (out : List ℕ) (rest left r : ℕ) : Type 0 where

@@ -1,4 +1,3 @@
 pub mod Cases
-pub mod PutsLaws
 pub mod FractionLaws
 pub mod SpellsLaws

@@ -15,12 +15,12 @@ use Rattle.std.specs.Prelude.{Ok, Err}
 use Rattle.outcomes.specs.Buffer.{laid, afterwards}
 use Rattle.outcomes.proofs.BufferLaws.{laid-copy}
 use Rattle.output.specs.Counts.{IsPrefixLen}
-use Rattle.flspelling.proofs.PutsLaws.{counts}
+use Rattle.output.proofs.PutsLaws.{counts}
 use Rattle.outcomes.proofs.OutcomeLaws.{passed, failed}
 use Rattle.output.proofs.AppendLaws.{after-whole, filled-whole}
 use Rattle.spelling.specs.Spellings.{glyph}
 use Rattle.flspelling.specs.Spellings.{fraction, pointed, last_digit, place, decimal, power, leading, scale, magnitude, sign, text_of_bits, hex_float, spelling, Spells}
-use Rattle.flspelling.specs.Inner.{Puts}
+use Rattle.output.specs.Put.{Puts}
 
 -- ---- lengths
 

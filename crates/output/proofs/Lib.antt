@@ -1,3 +1,4 @@
 pub mod PutLaws
 pub mod AppendLaws
 pub mod Counting
+pub mod PutsLaws

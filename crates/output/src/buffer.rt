@@ -1,7 +1,7 @@
 // A buffer that text is put into, piece after piece. What is beyond its end is cut off, so that no piece is ever refused.
 
-ghost use Rattle.std.specs.Prelude.{◌≡◌, ◌≤◌, length, take};
-ghost use Rattle.output.specs.Put.{filled, after};
+ghost use Rattle.std.specs.Prelude.{◌≡◌, ◌≤◌, ◌⊎◌, length, take, IfSome};
+ghost use Rattle.output.specs.Put.{filled, after, Puts};
 
 use crate::put;
 use std::fmt;
@@ -30,9 +30,14 @@ impl<'a> Output<'a> {
         self.filled = put(text, self.bytes, self.filled);
     }
 
-    // The text of a value. What that is, the value's own `fmt` says, by calls of write_str: so there is no clause.
-    pub fn print<T: fmt::Display + Drop>(&mut self, value: T) {
-        let _ = write!(self, "{value}");
+    // Puts the text of a value, where its type says what that is. Where the value's own `fmt` fails, and none of ours does, no text is left.
+    pub fn print<T: fmt::Display + Drop>(&mut self, value: T)
+        ensures { IfSome (T.output value) (λ text. Puts text self.old.bytes.now self.old.filled self.new.filled self.new.bytes.now ⊎ (self.new.filled ≡ 0)) }
+    {
+        match write!(self, "{value}") {
+            Ok(()) => {}
+            Err(_) => self.clear(),
+        }
     }
 
     pub fn clear(&mut self)
@@ -51,6 +56,8 @@ impl<'a> Output<'a> {
 }
 
 impl<'a> fmt::Write for Output<'a> {
+    ghost write_str_gives = { λ before text after. Puts text before.bytes.now before.filled after.filled after.bytes.now };
+
     fn write_str(&mut self, text: &str) -> fmt::Result {
         self.put(text.as_bytes());
         Ok(())

@@ -1,7 +1,7 @@
 -- `flspelling::put_bits` meets its contract. Assumes nothing.
 use Prim.Native.Nat.{◌/◌, ◌%◌, ◌^◌}
 use Rattle.flspelling.specs.Spellings.{magnitude, sign, text_of_bits}
-use Rattle.flspelling.proofs.PutsLaws.{puts_then}
+use Rattle.output.proofs.PutsLaws.{puts_then}
 use Rattle.flspelling.proofs.put_bits.Goals as goal
 
 pub returns : goal.returns

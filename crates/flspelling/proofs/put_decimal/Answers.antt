@@ -2,7 +2,7 @@
 use mathlib.Core.Path.{sym}
 use mathlib.Core.List.{[], ◌∷◌, ◌++◌}
 use Rattle.flspelling.specs.Spellings.{last_digit, place, decimal}
-use Rattle.flspelling.proofs.PutsLaws.{puts_then}
+use Rattle.output.proofs.PutsLaws.{puts_then}
 use Rattle.flspelling.proofs.put_decimal.Goals as goal
 
 pub returns : goal.returns

@@ -4,7 +4,7 @@ use Prim.Native.Nat.{◌+◌, ◌-◌}
 use mathlib.Core.Path.{◌≡◌, refl}
 use mathlib.Core.List.{[]}
 use mathlib.Core.Logic.{inl, inr}
-use Rattle.flspelling.proofs.PutsLaws.{puts-nothing}
+use Rattle.output.proofs.PutsLaws.{puts-nothing}
 use Rattle.flspelling.proofs.FractionLaws.{going_on, gone}
 use Rattle.flspelling.proofs.put_fraction.Goals as goal
 

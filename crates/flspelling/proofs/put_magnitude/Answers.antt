@@ -3,7 +3,7 @@ use mathlib.Core.Path.{sym}
 use mathlib.Core.List.{◌++◌}
 use borrow.Author.Tests.{eq-eqb, ne_eqb, lt-ltb, le-ltb}
 use Rattle.flspelling.specs.Spellings.{leading, pointed, power, scale, magnitude}
-use Rattle.flspelling.proofs.PutsLaws.{puts_then}
+use Rattle.output.proofs.PutsLaws.{puts_then}
 use Rattle.flspelling.proofs.put_magnitude.Goals as goal
 
 pub returns-then-m-eq0 : goal.returns-then-m-eq0

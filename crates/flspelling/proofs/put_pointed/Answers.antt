@@ -2,7 +2,7 @@
 use mathlib.Core.List.{[], ◌∷◌}
 use borrow.Author.Tests.{eq-eqb, ne_eqb}
 use Rattle.flspelling.specs.Spellings.{fraction, pointed}
-use Rattle.flspelling.proofs.PutsLaws.{puts_then}
+use Rattle.output.proofs.PutsLaws.{puts_then}
 use Rattle.flspelling.proofs.put_pointed.Goals as goal
 
 pub returns-then-m-eq0 : goal.returns-then-m-eq0

@@ -3,7 +3,7 @@ use Prim.Native.Nat.{◌-◌}
 use mathlib.Core.List.{[], ◌∷◌}
 use borrow.Author.Tests.{lt-ltb, le-ltb}
 use Rattle.flspelling.specs.Spellings.{decimal, power}
-use Rattle.flspelling.proofs.PutsLaws.{puts_then}
+use Rattle.output.proofs.PutsLaws.{puts_then}
 use Rattle.flspelling.proofs.put_power.Goals as goal
 
 pub returns-then-f-lt1023 : goal.returns-then-f-lt1023
