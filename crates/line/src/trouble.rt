@@ -1,4 +1,7 @@
 // What the command says: the exit status, and what is said of a word that cannot be read.
+ghost use Rattle.std.specs.Prelude.{◌≡◌};
+ghost use Rattle.line.specs.Exit.{number_of};
+
 use super::Line;
 use super::refusal::Span;
 use fxtable::width::{LARGEST_WIDTH, LEAST_WIDTH};
@@ -13,6 +16,19 @@ pub enum Status {
     Refused,
     // A word or an input cannot be read, or an answer cannot be written.
     Trouble,
+}
+
+impl From<Status> for u8 {
+    ghost from_gives = { λ s n. n ≡ number_of s };
+
+    #[tactic(auto, unfolding(crate::specs::Exit::number_of))]
+    fn from(status: Status) -> u8 {
+        match status {
+            Status::Done => 0,
+            Status::Refused => 1,
+            Status::Trouble => 2,
+        }
+    }
 }
 
 // What is expected in the place of a word.
