@@ -1,8 +1,7 @@
 // A walk through the bytes of a form: each call is opened, its arguments follow, and it is closed.
-ghost use Rattle.std.specs.Prelude.{◌≡◌};
+ghost use Rattle.std.specs.Prelude.{◌≡◌, ◌≤◌};
 ghost use Rattle.std.specs.Iterator.{at_most};
 
-use arrayvec::ArrayVec;
 use rulereader::heads::{Head, read_head};
 use rulereader::{DEEPEST, LONGEST};
 
@@ -30,13 +29,15 @@ pub struct Call {
 }
 
 // Where the next form begins, and the calls that are open, the innermost last. At the end of the form, or where it offends, the walk stays.
-#[derive(Drop)]
+#[derive(Clone, Copy)]
 pub struct Walk<'a> {
     rule: &'a [u8],
     pub at: usize,
     pub ended: bool,
-    calls: ArrayVec<Call, MOST_OPEN>,
+    calls: [Call; MOST_OPEN],
+    depth: usize,
     steps_left: usize,
+    ghost room: { depth ≤ 32 },
 }
 
 impl<'a> Walk<'a> {
@@ -46,27 +47,28 @@ impl<'a> Walk<'a> {
             rule,
             at: from,
             ended: false,
-            calls: ArrayVec::new(),
+            calls: [Call::default(); MOST_OPEN],
+            depth: 0,
             steps_left: MOST_STEPS,
         }
     }
 
     // The innermost open call.
     pub fn innermost(&self) -> Option<Call> {
-        self.calls.last().copied()
+        self.calls[..self.depth].last().copied()
     }
 
     // Whether no further call can be opened.
     pub fn is_deepest(&self) -> bool {
-        self.calls.is_full()
+        self.depth == MOST_OPEN
     }
 
     // After a whole form: an argument of the innermost open call, or the last.
     fn pass(&mut self)
         ensures { self.new.steps_left ≡ self.old.steps_left }
     {
-        match self.calls.last_mut() {
-            Some(call) => call.left = call.left.saturating_sub(1),
+        match self.depth.checked_sub(1) {
+            Some(top) => self.calls[top].left = self.calls[top].left.saturating_sub(1),
             None => self.ended = true,
         }
     }
@@ -74,7 +76,7 @@ impl<'a> Walk<'a> {
     fn close(&mut self) -> Event
         ensures { self.new.steps_left ≡ self.old.steps_left }
     {
-        let _ = self.calls.pop();
+        self.depth = self.depth.saturating_sub(1);
         self.pass();
         Event::Closes
     }
@@ -85,7 +87,7 @@ impl<'a> Walk<'a> {
         if self.innermost().is_some_and(|call| call.left == 0) {
             return Some(self.close());
         }
-        if self.ended || self.rule.len() < self.at || self.calls.is_full() {
+        if self.ended || self.rule.len() < self.at || self.depth == MOST_OPEN {
             return None;
         }
         let (head, end) = read_head(self.rule, self.at).ok()?;
@@ -101,7 +103,8 @@ impl<'a> Walk<'a> {
             }
             Head::Call { code, count } => {
                 let left = count;
-                self.calls.push(Call { code, count, left });
+                self.calls[self.depth] = Call { code, count, left };
+                self.depth += 1;
                 Some(Event::Opens { code })
             }
         }
