@@ -136,9 +136,8 @@ impl<'a, R: Input + Print, E: Print> Batch<'a, R, E> {
     }
 
     // All lines, of which the last may have no end, and the exit status.
-    fn run(&mut self) -> Status {
-        let mut input = output::large_buffer();
-        let have = self.take_input(&mut input);
+    fn run(&mut self, input: &mut [u8]) -> Status {
+        let have = self.take_input(input);
         if 0 < have && !self.failed {
             self.take_line(&input[..have]);
             self.flush();
@@ -147,16 +146,22 @@ impl<'a, R: Input + Print, E: Print> Batch<'a, R, E> {
     }
 }
 
-pub fn run_batch<R: Input + Print, E: Print>(console: &Console<R, E>) -> Status {
-    let mut answers = output::large_buffer();
+// The input is read into one lent buffer, and answers are put into another. It is not built into its caller: each command would have its
+// buffers on the stack.
+#[inline(never)]
+pub fn run_batch<R: Input + Print, E: Print>(
+    console: &Console<R, E>,
+    input: &mut [u8],
+    answers: &mut [u8],
+) -> Status {
     let mut words = output::large_buffer();
     let mut batch = Batch {
         console,
-        answers: Output::new(&mut answers),
+        answers: Output::new(answers),
         words: &mut words,
         status: Status::Done,
         skipping: false,
         failed: false,
     };
-    batch.run()
+    batch.run(input)
 }

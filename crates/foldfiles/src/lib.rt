@@ -12,12 +12,11 @@ use std::io::Read;
 use std::rt::Files;
 use streams::Console;
 
-// All bytes of an input, into a record that is open.
-fn fold_all<R: Read>(reader: &mut R, first: Fold) -> io::Result<Fold> {
-    let mut buffer = output::large_buffer();
+// All bytes of an input, into a record that is open. The buffer is lent, so that it is cleared once and not for each file.
+fn fold_all<R: Read>(reader: &mut R, first: Fold, buffer: &mut [u8]) -> io::Result<Fold> {
     let mut fold = first;
     for _ in 0..u64::MAX {
-        let n = reader.read(&mut buffer)?;
+        let n = reader.read(buffer)?;
         if n == 0 {
             break;
         }
@@ -31,9 +30,10 @@ fn fold_file<R: Files + Input, E>(
     console: &Console<R, E>,
     name: &[u8],
     first: Fold,
+    buffer: &mut [u8],
 ) -> io::Result<Fold> {
     let mut file = console.open_file(name)?;
-    fold_all(&mut file, first)
+    fold_all(&mut file, first, buffer)
 }
 
 // Folds a file, and writes its answer or says why it cannot be read.
@@ -43,9 +43,10 @@ fn run_file<R: Files + Input + Print, E: Print>(
     settings: Settings,
     first: Fold,
     behind: Behind,
+    buffer: &mut [u8],
     out: &mut Output,
 ) -> io::Result<Status> {
-    let fold = fold_file(console, name, first).inspect_err(|error| console.report_file(
+    let fold = fold_file(console, name, first, buffer).inspect_err(|error| console.report_file(
         name, *error,
     ))?;
     out.clear();
@@ -61,15 +62,17 @@ fn run_files<R: Files + Input + Print, E: Print>(
     few: usize,
     settings: Settings,
     first: Fold,
+    buffer: &mut [u8],
     out: &mut Output,
 ) -> Status {
     let mut status = Status::Done;
+    let are_many = 1 < line.count_past(few);
     for i in few..line.count() {
         let Some(name) = line.word(i + 1) else {
             break;
         };
-        let behind = Behind((1 < line.count_past(few)).then_some(name));
-        match run_file(console, name, settings, first, behind, out) {
+        let behind = Behind(are_many.then_some(name));
+        match run_file(console, name, settings, first, behind, buffer, out) {
             Ok(Status::Trouble) => return Status::Trouble,
             Ok(written) => status = status.max(written),
             Err(_) => status = Status::Trouble,
@@ -78,7 +81,9 @@ fn run_files<R: Files + Input + Print, E: Print>(
     status
 }
 
-// Answers the words of a fold, and gives the exit status. Nothing is read where a word cannot be read or opening is refused.
+// Answers the words of a fold, and gives the exit status. Nothing is read where a word cannot be read or opening is refused. It is not built
+// into its caller, as `run_batch` is not.
+#[inline(never)]
 pub fn run_fold<R: Files + Input + Print, E: Print>(
     console: &Console<R, E>,
     line: Line,
@@ -98,10 +103,12 @@ pub fn run_fold<R: Files + Input + Print, E: Print>(
             return console.write_reply(status, out.text());
         }
     };
+    let mut buffer = output::large_buffer();
     if line.count_past(few) == 0 {
-        let answered = run_file(console, b"-", settings, first, Behind(None), out);
+        let behind = Behind(None);
+        let answered = run_file(console, b"-", settings, first, behind, &mut buffer, out);
         answered.unwrap_or(Status::Trouble)
     } else {
-        run_files(console, line, few, settings, first, out)
+        run_files(console, line, few, settings, first, &mut buffer, out)
     }
 }

@@ -38,18 +38,22 @@ fn take_words(rt: &impl Env, buffer: &mut [u8]) -> Option<usize>
     Some(at)
 }
 
-// Answers a line, and gives its status.
-fn answer_line<R: Files + Input + Print, E: Print>(
+// Answers the words that fill the first n bytes of a buffer, and gives their status. `batch` reads its input into that buffer.
+fn answer_words<R: Files + Input + Print, E: Print>(
     console: &Console<R, E>,
-    line: Line,
-    out: &mut Output,
-) -> Status {
-    match task_of(line) {
-        Task::Batch => run_batch(console),
-        Task::Fold => run_fold(console, line, out),
-        Task::RuleFile => run_rule(console, line, out),
+    words: &mut [u8],
+    n: usize,
+    answer: &mut [u8],
+) -> Status
+    requires { n ≤ length words.old }
+{
+    match task_of(Line::new(&words[..n])) {
+        Task::Batch => run_batch(console, words, answer),
+        Task::Fold => run_fold(console, Line::new(&words[..n]), &mut Output::new(answer)),
+        Task::RuleFile => run_rule(console, Line::new(&words[..n]), &mut Output::new(answer)),
         Task::Words => {
-            let status = reply_words(line, out);
+            let mut out = Output::new(answer);
+            let status = reply_words(Line::new(&words[..n]), &mut out);
             console.write_reply(status, out.text())
         }
     }
@@ -61,11 +65,7 @@ pub fn ql_command<R: Env + Files + Input + Print>(rt: &R, errors: &impl Print) -
     let mut words = output::large_buffer();
     let mut answer = output::large_buffer();
     match take_words(rt, &mut words) {
-        Some(n) => answer_line(
-            &console,
-            Line::new(&words[..n]),
-            &mut Output::new(&mut answer),
-        ),
+        Some(n) => answer_words(&console, &mut words, n, &mut answer),
         None => {
             console.report("ql: the words have more than 65535 bytes together\n");
             Status::Trouble
@@ -74,5 +74,5 @@ pub fn ql_command<R: Env + Files + Input + Print>(rt: &R, errors: &impl Print) -
 }
 
 fn main(rt: HostRuntime) -> ExitCode {
-    ExitCode::from(ql_command(&rt, &rt.stderr()) as u8)
+    ExitCode::from(u8::from(ql_command(&rt, &rt.stderr())))
 }

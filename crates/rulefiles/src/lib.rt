@@ -41,7 +41,9 @@ fn read_file<R: Files + Input, E>(
     read_rule(&mut file, buffer)
 }
 
-// Answers `rule` with a file, and gives the exit status. Nothing is read where a word cannot be read.
+// Answers `rule` with a file, and gives the exit status. Nothing is read where a word cannot be read. It is not built into its caller, as
+// `run_batch` is not.
+#[inline(never)]
 pub fn run_rule<R: Files + Input + Print, E: Print>(
     console: &Console<R, E>,
     line: Line,

@@ -28,7 +28,9 @@ impl fmt::Display for Cause {
 }
 
 impl<'a, R, E: Print> Console<'a, R, E> {
-    // Says something on standard error, by one write. What cannot be written there is lost.
+    // Says something on standard error, by one write. What cannot be written there is lost. It is not built into its callers, whose frames would
+    // each have its buffer.
+    #[inline(never)]
     pub fn report<M: fmt::Display + Drop>(&self, message: M) {
         let mut bytes = [0; 8192];
         let mut text = Output::new(&mut bytes);
