@@ -91,17 +91,28 @@ fn write(operation: Bitwise, arguments: Arguments, out: &mut [u32]) -> Result<us
     }
 }
 
-// The answer of a call, put into the output as a line.
-fn print_answer(operation: Bitwise, arguments: Arguments, out: &mut Output) -> Result<(), Refusal> {
-    if let Some(answer) = count(operation, arguments) {
-        out.print(format_args!("{}\n", Both(answer?)));
-        return Ok(());
-    }
+// The answer of a call that writes limbs, put into the output as a line.
+fn print_integer(
+    operation: Bitwise,
+    arguments: Arguments,
+    out: &mut Output,
+) -> Result<(), Refusal> {
     let mut space = [0; RESULT];
     let n = write(operation, arguments, &mut space)?;
     print_limbs(&mut space[..n], out);
     out.put(b"\n");
     Ok(())
+}
+
+// The answer of a call, put into the output as a line.
+fn print_answer(operation: Bitwise, arguments: Arguments, out: &mut Output) -> Result<(), Refusal> {
+    match count(operation, arguments) {
+        Some(answer) => {
+            out.print(format_args!("{}\n", Both(answer?)));
+            Ok(())
+        }
+        None => print_integer(operation, arguments, out),
+    }
 }
 
 fn reply_call(operation: Bitwise, arguments: Arguments, out: &mut Output) -> Status {
@@ -133,6 +144,40 @@ fn read_others<'a>(
     }
 }
 
+// A call with operands after the first.
+fn reply_others(
+    line: Line,
+    operation: Bitwise,
+    x: &[u32],
+    numbers: [i64; 4],
+    out: &mut Output,
+) -> Result<Status, Trouble> {
+    let mut ys = [0; OPERAND];
+    let mut zs = [0; OPERAND];
+    let (y, z) = read_others(line, operation, &mut ys, &mut zs)?;
+    let arguments = Arguments { x, y, z, numbers };
+    Ok(reply_call(operation, arguments, out))
+}
+
+// A call with as many arguments as it takes. A function's buffers are cleared when it begins, so those that not each call needs are in
+// functions of their own.
+fn reply_operands(line: Line, operation: Bitwise, out: &mut Output) -> Result<Status, Trouble> {
+    let mut xs = [0; OPERAND];
+    let x = read_operand(line, 3, &mut xs)?;
+    let [first, second, third, _] = line.numbers(3, 3 + numbers_of(operation))?;
+    let numbers = [0, first, second, third];
+    if arity(operation) != 1 + numbers_of(operation) {
+        return reply_others(line, operation, x, numbers, out);
+    }
+    let arguments = Arguments {
+        x,
+        y: &[],
+        z: &[],
+        numbers,
+    };
+    Ok(reply_call(operation, arguments, out))
+}
+
 // `bitwise-not takes 1 argument, not 2`
 fn wrong_count(operation: Bitwise, count: usize) -> WrongCount {
     WrongCount {
@@ -153,17 +198,5 @@ pub fn reply_bitwise(line: Line, out: &mut Output) -> Result<Status, Trouble> {
         out.print(format_args!("{head}{}\n", wrong_count(operation, count)));
         return Ok(Status::Refused);
     }
-    let mut xs = [0; OPERAND];
-    let mut ys = [0; OPERAND];
-    let mut zs = [0; OPERAND];
-    let x = read_operand(line, 3, &mut xs)?;
-    let [first, second, third, _] = line.numbers(3, 3 + numbers_of(operation))?;
-    let (y, z) = read_others(line, operation, &mut ys, &mut zs)?;
-    let arguments = Arguments {
-        x,
-        y,
-        z,
-        numbers: [0, first, second, third],
-    };
-    Ok(reply_call(operation, arguments, out))
+    reply_operands(line, operation, out)
 }
