@@ -1,5 +1,5 @@
 -- The fold of `extend` over the counted arguments. Assumes nothing.
-use Rattle.std.proofs.Common.{◌≡◌, ℕ, zero, suc, ◌+◌, ◌-◌, ◌<◌, ◌≤◌, Bool, true, false, cond, List, [], ◌∷◌, length, get_or, take, drop, refl, sym, ap, ◌∙◌, ap₂, add-one, arith, drop_of_length-le, drop-cons}
+use Rattle.std.proofs.Common.{◌≡◌, ℕ, suc, ◌+◌, ◌<◌, ◌≤◌, Bool, true, false, cond, List, ◌∷◌, length, get_or, take, drop, sym, ap, ◌∙◌, ap₂, add-one, arith, drop_of_length-le, length-take, length-take-le, drop-cons, get_or-take}
 use lib.Ieee.{Float, nan, lt, is_nan}
 use Rattle.flonum.specs.declared.extremes.Extremes.{Extremes}
 use Rattle.flonum.specs.Extremes.{above, kept, extend, extend_all, extremes}
@@ -28,20 +28,23 @@ module _ (e : Extremes) (x s l : Float) where
   unfolding extend
   with_number t p q = ap₂ both p q ∙ sym (ap (λ (b : Bool). cond b (both nan nan) without) t)
 
--- the first argument begins the fold, over the others that are counted
-pub begins : (xs : List Float) (n : ℕ) → 0 < length xs → 1 ≤ n
-    → extend_all (both (get_or xs 0 nan) (get_or xs 0 nan)) (take (n - 1) (drop 1 xs)) ≡ extremes (take n xs)
-unfolding extremes
-begins [] n l h = absurd (omega arith)
-begins (x ∷ xs) zero l h = absurd (omega arith)
-begins (x ∷ xs) (suc m) l h = let e : suc m - 1 ≡ m = omega arith in rw e refl
+module _ (xs : List Float) (n : ℕ) (four : length xs ≡ 4) (few : n ≤ 4) where
+  rest-cons : (i : ℕ) → i < n → drop i (take n xs) ≡ get_or xs i nan ∷ drop (i + 1) (take n xs)
+  rest-cons i h =
+      let l : i < length (take n xs) = omega (arith, length-take-le n xs (omega arith)) in
+      drop-cons (take n xs) i nan l
+      ∙ ap (λ (x : Float). x ∷ drop (suc i) (take n xs)) (get_or-take n xs i nan h)
+      ∙ ap (λ (k : ℕ). get_or xs i nan ∷ drop k (take n xs)) (sym (add-one i))
 
-module _ (xs : List Float) (e : Extremes) (i : ℕ) where
-  -- each further one is one step
-  pub goes_on : i < length xs → extend_all e (drop i xs) ≡ extend_all (extend e (get_or xs i nan)) (drop (i + 1) xs)
-  unfolding extend_all
-  goes_on h = ap (extend_all e) (drop-cons xs i nan h) ∙ ap (λ (k : ℕ). extend_all (extend e (get_or xs i nan)) (drop k xs)) (sym (add-one i))
+  -- the first argument begins the fold, and each further one is one step
+  pub begins : 1 ≤ n → extend_all (record { smallest = get_or xs 0 nan; largest = get_or xs 0 nan }) (drop 1 (take n xs)) ≡ extremes (take n xs)
+  unfolding extremes
+  begins h = sym (ap extremes (rest-cons 0 h))
 
-  pub ends : length xs ≤ i → extend_all e (drop i xs) ≡ e
+  pub goes_on : (e : Extremes) (i : ℕ) → i < n → extend_all e (drop i (take n xs)) ≡ extend_all (extend e (get_or xs i nan)) (drop (i + 1) (take n xs))
   unfolding extend_all
-  ends h = ap (extend_all e) (drop_of_length-le xs {i = i} h)
+  goes_on e i h = ap (extend_all e) (rest-cons i h)
+
+  pub ends : (e : Extremes) (i : ℕ) → n ≤ i → extend_all e (drop i (take n xs)) ≡ e
+  unfolding extend_all
+  ends e i h = ap (extend_all e) (drop_of_length-le (take n xs) {i = i} (omega (arith, length-take n xs)))

@@ -1,7 +1,7 @@
 -- `flonum::extremes::flextremes` meets its contract. Assumes nothing.
-use Rattle.std.proofs.Common.{◌≡◌, drop}
-use Rattle.flonum.specs.Extremes.{extend_all}
+use Rattle.std.proofs.Common.{◌≡◌, take, drop}
+use Rattle.flonum.specs.Extremes.{extend_all, extremes}
 use Rattle.flonum.proofs.extremes.flextremes.Given as goal
 
-abbrev pub invariant-loop-x : goal.invariant-loop-x
-invariant-loop-x l = extend_all l.e (drop l.x-index l.x-items) ≡ extend_all l.initial.e l.x-items
+abbrev pub invariant-loop-i : goal.invariant-loop-i
+invariant-loop-i l = extend_all l.e (drop l.i (take l.count l.args)) ≡ extremes (take l.count l.args)
