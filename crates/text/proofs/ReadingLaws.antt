@@ -1,18 +1,20 @@
 -- A number as a word, where it is below 2^64, and what a text is as a signed word. Assumes nothing.
 use Prim.Native.Nat.{ℕ, ◌^◌, ◌≤◌, ◌<◌}
 use native.Mathlib.Omega.{arith}
-use mathlib.Core.Path.{◌≡◌, refl, sym, ◌∙◌}
+use mathlib.Core.Path.{◌≡◌, refl, sym, ap, ◌∙◌}
 use mathlib.Core.Bool.{Bool, true, false, cond}
 use mathlib.Core.List.{List}
 use lib.Dec.{ltb}
 use lib.IntN.{ℤ}
+use lib.ListN.{length, take}
+use lib.Seq.{take_all}
 use borrow.Author.Tests.{lt-ltb, le-ltb, ltb-true, ltb-false, lt-leb}
 use Rattle.bits.specs.Testbit.{fits}
 use Rattle.words.specs.Sign.{with_sign}
 use Rattle.words.proofs.WordLaws.{fits_negative, fits-nonnegative}
 use Rattle.text.specs.declared.ReadError.{ReadError}
 use Rattle.std.specs.Prelude.{Some, None, Result, Ok, Err, ok_or}
-use Rattle.text.specs.Numerals.{is_integer, integer}
+use Rattle.text.specs.Numerals.{numeral, is_integer, integer}
 use Rattle.text.specs.Readings.{reading}
 use Rattle.text.specs.Inner.{as_word}
 
@@ -25,6 +27,12 @@ as_word-value n h = rw (lt-ltb n (2 ^ 64) h) refl
 pub as_word-beyond : (n : ℕ) → 2 ^ 64 ≤ n → as_word n ≡ None
 unfolding as_word
 as_word-beyond n h = rw (le-ltb n (2 ^ 64) h) refl
+
+-- the digits are all summed, and a word holds the sum
+pub word_summed : (base n i : ℕ) (text : List ℕ) → n ≡ numeral base (take i text) → length text ≤ i → n < 2 ^ 64 → Some n ≡ as_word (numeral base text)
+word_summed base n i text e all h =
+    let s : n ≡ numeral base text = e ∙ ap (numeral base) (take_all i text all) in
+    ap Some s ∙ sym (as_word-value (numeral base text) (omega (arith, s)))
 
 pub value-as_word : (n m : ℕ) → as_word n ≡ Some m → (n ≡ m) × (m < 2 ^ 64)
 unfolding as_word

